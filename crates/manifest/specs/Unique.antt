@@ -1,0 +1,36 @@
+-- No two differing results meet the contract of a public function: each contract is one equation for the whole result.
+-- Document 01, "What the contracts have to say".
+use Prim.Native.Nat.{ℕ}
+use mathlib.Core.Path.{_≡_, sym, _∙_}
+use mathlib.Core.List.{List}
+use Rattle.manifest.specs.declared.Define.{Define}
+use Rattle.manifest.specs.declared.Component.{Component}
+use Rattle.manifest.specs.declared.Resource.{Resource}
+use Rattle.manifest.specs.declared.Verdict.{Verdict}
+use Rattle.manifest.specs.Layout.{u8At, defineAt, componentAt, resourceAt}
+use Rattle.manifest.specs.Verdict.{verdictOf, answerOf, entryAt, noDefine, noComponent, noResource}
+
+-- the general law: what is equal to one thing is equal
+pub only-one : {A : Type 0} (it : A) (r r′ : A) → r ≡ it → r′ ≡ it → r ≡ r′
+only-one it r r′ e e′ = e ∙ sym e′
+
+pub manifest-check-only : (s : List ℕ) (r r′ : ℕ) → r ≡ answerOf s → r′ ≡ answerOf s → r ≡ r′
+manifest-check-only s = only-one (answerOf s)
+
+pub check-only : (s : List ℕ) (r r′ : Verdict) → r ≡ verdictOf s → r′ ≡ verdictOf s → r ≡ r′
+check-only s = only-one (verdictOf s)
+
+pub byte-at-only : (s : List ℕ) (at r r′ : ℕ) → r ≡ u8At s at → r′ ≡ u8At s at → r ≡ r′
+byte-at-only s at = only-one (u8At s at)
+
+pub define-at-only : (s : List ℕ) (at : ℕ) (r r′ : Define) → r ≡ entryAt noDefine defineAt 3 s at → r′
+    ≡ entryAt noDefine defineAt 3 s at → r ≡ r′
+define-at-only s at = only-one (entryAt noDefine defineAt 3 s at)
+
+pub component-at-only : (s : List ℕ) (at : ℕ) (r r′ : Component) → r ≡ entryAt noComponent componentAt 8 s at → r′
+    ≡ entryAt noComponent componentAt 8 s at → r ≡ r′
+component-at-only s at = only-one (entryAt noComponent componentAt 8 s at)
+
+pub resource-at-only : (s : List ℕ) (at : ℕ) (r r′ : Resource) → r ≡ entryAt noResource resourceAt 8 s at → r′
+    ≡ entryAt noResource resourceAt 8 s at → r ≡ r′
+resource-at-only s at = only-one (entryAt noResource resourceAt 8 s at)

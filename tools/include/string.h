@@ -1,0 +1,3 @@
+#pragma once
+#include <stddef.h>
+char *strerror(int error);

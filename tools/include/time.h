@@ -1,0 +1,7 @@
+#pragma once
+struct timespec {
+    long tv_sec;
+    long tv_nsec;
+};
+#define CLOCK_MONOTONIC 1
+int clock_gettime(int clock, struct timespec *now);
