@@ -8,7 +8,7 @@ use Rattle.manifest.specs.declared.Component.{Component}
 use Rattle.manifest.specs.declared.Resource.{Resource}
 use Rattle.manifest.specs.declared.Verdict.{Verdict}
 use Rattle.manifest.specs.Layout.{u8At, defineAt, componentAt, resourceAt}
-use Rattle.manifest.specs.Verdict.{verdictOf, answerOf, entryAt, noDefine, noComponent, noResource}
+use Rattle.manifest.specs.Verdict.{verdictOf, answerOf, entryAt, zeroDefine, zeroComponent, zeroResource}
 
 -- the general law: what is equal to one thing is equal
 pub only-one : {A : Type 0} (it : A) (r r′ : A) → r ≡ it → r′ ≡ it → r ≡ r′
@@ -23,14 +23,14 @@ check-only s = only-one (verdictOf s)
 pub byte-at-only : (s : List ℕ) (at r r′ : ℕ) → r ≡ u8At s at → r′ ≡ u8At s at → r ≡ r′
 byte-at-only s at = only-one (u8At s at)
 
-pub define-at-only : (s : List ℕ) (at : ℕ) (r r′ : Define) → r ≡ entryAt noDefine defineAt 3 s at → r′
-    ≡ entryAt noDefine defineAt 3 s at → r ≡ r′
-define-at-only s at = only-one (entryAt noDefine defineAt 3 s at)
+pub define-at-only : (s : List ℕ) (at : ℕ) (r r′ : Define) → r ≡ entryAt zeroDefine defineAt 3 s at → r′
+    ≡ entryAt zeroDefine defineAt 3 s at → r ≡ r′
+define-at-only s at = only-one (entryAt zeroDefine defineAt 3 s at)
 
-pub component-at-only : (s : List ℕ) (at : ℕ) (r r′ : Component) → r ≡ entryAt noComponent componentAt 8 s at → r′
-    ≡ entryAt noComponent componentAt 8 s at → r ≡ r′
-component-at-only s at = only-one (entryAt noComponent componentAt 8 s at)
+pub component-at-only : (s : List ℕ) (at : ℕ) (r r′ : Component) → r ≡ entryAt zeroComponent componentAt 8 s at → r′
+    ≡ entryAt zeroComponent componentAt 8 s at → r ≡ r′
+component-at-only s at = only-one (entryAt zeroComponent componentAt 8 s at)
 
-pub resource-at-only : (s : List ℕ) (at : ℕ) (r r′ : Resource) → r ≡ entryAt noResource resourceAt 8 s at → r′
-    ≡ entryAt noResource resourceAt 8 s at → r ≡ r′
-resource-at-only s at = only-one (entryAt noResource resourceAt 8 s at)
+pub resource-at-only : (s : List ℕ) (at : ℕ) (r r′ : Resource) → r ≡ entryAt zeroResource resourceAt 8 s at → r′
+    ≡ entryAt zeroResource resourceAt 8 s at → r ≡ r′
+resource-at-only s at = only-one (entryAt zeroResource resourceAt 8 s at)

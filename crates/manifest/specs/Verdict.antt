@@ -45,11 +45,11 @@ answerOf s = cond (goodBytes s) 0 3
 abbrev pub entryAt : {A : Type 0} → A → (List ℕ → ℕ → A) → ℕ → List ℕ → ℕ → A
 entryAt zeros f size s a = cond (leb (a + size) (length s)) (f s a) zeros
 
-abbrev pub noDefine : Define
-noDefine = record { permission = 0; level = 0; group = 0 }
+abbrev pub zeroDefine : Define
+zeroDefine = record { permission = 0; level = 0; group = 0 }
 
-abbrev pub noComponent : Component
-noComponent =
+abbrev pub zeroComponent : Component
+zeroComponent =
     record {
       number = 0;
       kind = 0;
@@ -60,5 +60,5 @@ noComponent =
       write = 0;
     }
 
-abbrev pub noResource : Resource
-noResource = record { provider = 0; uri = 0; value = 0 }
+abbrev pub zeroResource : Resource
+zeroResource = record { provider = 0; uri = 0; value = 0 }

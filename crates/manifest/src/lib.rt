@@ -7,8 +7,8 @@ ghost use lib.Dec.{leb};
 ghost use Rattle.manifest.specs.Layout.{u8At, u16At, u32At, defineAt, componentAt, resourceAt, entries, after};
 ghost use Rattle.manifest.specs.Good.{any, goodDefine, goodComponent, isProviderOf, usesRise, definesRise};
 ghost use Rattle.manifest.specs.Good.{componentsRise, resourcesRise, resourceKey};
-ghost use Rattle.manifest.specs.Verdict.{sectionOf, sectionsOf, verdictOf, answerOf, entryAt, noDefine};
-ghost use Rattle.manifest.specs.Verdict.{noComponent, noResource};
+ghost use Rattle.manifest.specs.Verdict.{sectionOf, sectionsOf, verdictOf, answerOf, entryAt, zeroDefine};
+ghost use Rattle.manifest.specs.Verdict.{zeroComponent, zeroResource};
 ghost use Rattle.manifest.specs.Steps.{countOf, usesEnd, definesEnd, componentsEnd, resourcesEnd, headEnd};
 ghost use Rattle.manifest.specs.Steps.{restEnd, partEnd, passed, endVerdict};
 
@@ -107,7 +107,7 @@ pub fn byte_at(s: &[u8], at: usize) -> u8
 
 /// The define, the component and the resource at a place; one that is not all there reads as zeros.
 pub fn define_at(s: &[u8], at: usize) -> Define
-    ensures { λ r. ⌜ r ≡ entryAt noDefine defineAt 3 (now (s .entry)) at ⌝ }
+    ensures { λ r. ⌜ r ≡ entryAt zeroDefine defineAt 3 (now (s .entry)) at ⌝ }
 {
     if all_there(s, at, 3) {
         return define_from(s, at);
@@ -120,7 +120,7 @@ pub fn define_at(s: &[u8], at: usize) -> Define
 }
 
 pub fn component_at(s: &[u8], at: usize) -> Component
-    ensures { λ r. ⌜ r ≡ entryAt noComponent componentAt 8 (now (s .entry)) at ⌝ }
+    ensures { λ r. ⌜ r ≡ entryAt zeroComponent componentAt 8 (now (s .entry)) at ⌝ }
 {
     if all_there(s, at, 8) {
         return component_from(s, at);
@@ -137,7 +137,7 @@ pub fn component_at(s: &[u8], at: usize) -> Component
 }
 
 pub fn resource_at(s: &[u8], at: usize) -> Resource
-    ensures { λ r. ⌜ r ≡ entryAt noResource resourceAt 8 (now (s .entry)) at ⌝ }
+    ensures { λ r. ⌜ r ≡ entryAt zeroResource resourceAt 8 (now (s .entry)) at ⌝ }
 {
     if all_there(s, at, 8) {
         return resource_from(s, at);

@@ -2,7 +2,7 @@
 use denote.Ref.{now}
 use borrow.Author.Needs.{needs}
 use Rattle.manifest.specs.Layout.{componentAt}
-use Rattle.manifest.specs.Verdict.{noComponent}
+use Rattle.manifest.specs.Verdict.{zeroComponent}
 use Rattle.manifest.proofs.Places.{fits-so, entry-there, entry-not}
 use Rattle.manifest.proofs.component_at.Statement.{statement}
 use Rattle.manifest.proofs.component_at.Tie as tie
@@ -18,12 +18,12 @@ component-from-requires c κs =
 returns : tie.Need-returns
 returns c =
     let a = c .before .before .before .before .args in
-    entry-there (a .at) 8 (now (a .s)) (c .before .before .all-there .ensures) noComponent componentAt (c .before .if1 .taken) (c .component-from .ensures)
+    entry-there (a .at) 8 (now (a .s)) (c .before .before .all-there .ensures) zeroComponent componentAt (c .before .if1 .taken) (c .component-from .ensures)
 
 returns-2 : tie.Need-returns-2
 returns-2 c =
     let a = c .before .before .before .args in
-    entry-not (a .at) 8 (now (a .s)) (c .before .all-there .ensures) noComponent componentAt (c .if1 .left)
+    entry-not (a .at) 8 (now (a .s)) (c .before .all-there .ensures) zeroComponent componentAt (c .if1 .left)
 
 pub component-at-spec : {M : Type 1} → statement M
 component-at-spec = tie.close (tie.spec all-there-requires component-from-requires returns returns-2)

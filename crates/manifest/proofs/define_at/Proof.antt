@@ -2,7 +2,7 @@
 use denote.Ref.{now}
 use borrow.Author.Needs.{needs}
 use Rattle.manifest.specs.Layout.{defineAt}
-use Rattle.manifest.specs.Verdict.{noDefine}
+use Rattle.manifest.specs.Verdict.{zeroDefine}
 use Rattle.manifest.proofs.Places.{fits-so, entry-there, entry-not}
 use Rattle.manifest.proofs.define_at.Statement.{statement}
 use Rattle.manifest.proofs.define_at.Tie as tie
@@ -18,12 +18,12 @@ define-from-requires c κs =
 returns : tie.Need-returns
 returns c =
     let a = c .before .before .before .before .args in
-    entry-there (a .at) 3 (now (a .s)) (c .before .before .all-there .ensures) noDefine defineAt (c .before .if1 .taken) (c .define-from .ensures)
+    entry-there (a .at) 3 (now (a .s)) (c .before .before .all-there .ensures) zeroDefine defineAt (c .before .if1 .taken) (c .define-from .ensures)
 
 returns-2 : tie.Need-returns-2
 returns-2 c =
     let a = c .before .before .before .args in
-    entry-not (a .at) 3 (now (a .s)) (c .before .all-there .ensures) noDefine defineAt (c .if1 .left)
+    entry-not (a .at) 3 (now (a .s)) (c .before .all-there .ensures) zeroDefine defineAt (c .if1 .left)
 
 pub define-at-spec : {M : Type 1} → statement M
 define-at-spec = tie.close (tie.spec all-there-requires define-from-requires returns returns-2)

@@ -2,7 +2,7 @@
 use denote.Ref.{now}
 use borrow.Author.Needs.{needs}
 use Rattle.manifest.specs.Layout.{resourceAt}
-use Rattle.manifest.specs.Verdict.{noResource}
+use Rattle.manifest.specs.Verdict.{zeroResource}
 use Rattle.manifest.proofs.Places.{fits-so, entry-there, entry-not}
 use Rattle.manifest.proofs.resource_at.Statement.{statement}
 use Rattle.manifest.proofs.resource_at.Tie as tie
@@ -18,12 +18,12 @@ resource-from-requires c κs =
 returns : tie.Need-returns
 returns c =
     let a = c .before .before .before .before .args in
-    entry-there (a .at) 8 (now (a .s)) (c .before .before .all-there .ensures) noResource resourceAt (c .before .if1 .taken) (c .resource-from .ensures)
+    entry-there (a .at) 8 (now (a .s)) (c .before .before .all-there .ensures) zeroResource resourceAt (c .before .if1 .taken) (c .resource-from .ensures)
 
 returns-2 : tie.Need-returns-2
 returns-2 c =
     let a = c .before .before .before .args in
-    entry-not (a .at) 8 (now (a .s)) (c .before .all-there .ensures) noResource resourceAt (c .if1 .left)
+    entry-not (a .at) 8 (now (a .s)) (c .before .all-there .ensures) zeroResource resourceAt (c .if1 .left)
 
 pub resource-at-spec : {M : Type 1} → statement M
 resource-at-spec = tie.close (tie.spec all-there-requires resource-from-requires returns returns-2)

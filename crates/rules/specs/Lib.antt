@@ -1,0 +1,13 @@
+pub mod Lists
+pub mod ListsLaws
+pub mod Limits
+pub mod Action
+pub mod ActionLaws
+pub mod Record
+pub mod View
+pub mod Permissions
+pub mod Grounds
+pub mod Refusals
+pub mod Answer
+pub mod Order
+pub mod OrderLaws
