@@ -12,18 +12,8 @@ use Rattle.manifest.specs.declared.Count.the-variants as count
 use Rattle.manifest.specs.declared.Place.{Place}
 use Rattle.manifest.specs.declared.Place.the-variants as place
 use Rattle.manifest.specs.Layout.{u8At, after}
+use Rattle.manifest.specs.GoodLaws.{and-parts}
 use Rattle.manifest.specs.Steps.{counted, countOf, endOf}
-
-pub both : (a b : Bool) → (a && b) ≡ true → (a ≡ true) × (b ≡ true)
-both true b e = (refl, e)
-both false b e = (e, let z : false ≡ true = e in absurd (bot z))
-  where
-    bot : false ≡ true → ⊥
-    bot z = let y : _≡_ {A = ℕ} 0 1 = cc in omega arith
-
-pub either : (b : Bool) → (b ≡ true → ⊥) → b ≡ false
-either true h = absurd (h refl)
-either false h = refl
 
 -- what a count of n says of the section at a
 pub record Counted (size most : ℕ) (s : List ℕ) (a n : ℕ) : Type 0 where
@@ -51,7 +41,7 @@ module _ (size most : ℕ) (s : List ℕ) (a : ℕ) where
 
   pub counted-fits : counted size most s a ≡ true → (after size s a ≤ length s) × (u8At s a ≤ most)
   counted-fits e =
-      let t = both (leb (after size s a) (length s)) (leb (u8At s a) most) e in
+      let t = and-parts (leb (after size s a) (length s)) (leb (u8At s a) most) e in
       (leb-true _ _ (t .0), leb-true _ _ (t .1))
 
   told : {n : ℕ} (b : Bool) → count.Of n ≡ cond b (count.Of (u8At s a)) count.Refused → (n ≡ u8At s a) × (b ≡ true)
@@ -98,4 +88,4 @@ module _ (size most : ℕ) (s : List ℕ) (a : ℕ) (ok : Bool) where
   end-told {r} {p} e k = ended {p = p} (counted size most s a && ok) (sym k ∙ e)
 
   pub end-within : {r : Place} {p : ℕ} → r ≡ endOf size most s a ok → r ≡ place.At p → after size s a ≤ length s
-  end-within e k = counted-fits size most s a (both (counted size most s a) ok (end-told e k .1) .0) .0
+  end-within e k = counted-fits size most s a (and-parts (counted size most s a) ok (end-told e k .1) .0) .0

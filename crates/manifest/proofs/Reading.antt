@@ -19,7 +19,8 @@ use Rattle.manifest.specs.Good.{usesRise, definesRise, componentsRise, r
 use Rattle.manifest.specs.Verdict.{sectionsOf, verdictOf, answerOf, numberOf}
 use Rattle.manifest.specs.Steps.{endOf, usesEnd, definesEnd, componentsEnd, resourcesEnd, headEnd, thenAt}
 use Rattle.manifest.specs.Steps.{restEnd, onward, passed, endVerdict, readVerdict}
-use Rattle.manifest.proofs.Counts.{both, end-told, end-within}
+use Rattle.manifest.specs.GoodLaws.{and-parts}
+use Rattle.manifest.proofs.Counts.{end-told, end-within}
 use Rattle.manifest.proofs.Whole.{Facts, facts, of-facts}
 
 -- a place that is within the bytes was not refused
@@ -69,8 +70,8 @@ module _ (s : List ℕ) where
       let us = starts 1 32 one (usesRise 0 (section u8At 1 s one)) uu in
       let hh : headEnd s 0 ≡ place.At one = within s (headEnd s 0) (us .1) in
       let hs = head-of numbers hh in
-      let n = both (leb 6 (length s)) (ltb 0 (u16At s 0) && ltb 0 (u32At s 2)) (hs .1) in
-      let m = both (ltb 0 (u16At s 0)) (ltb 0 (u32At s 2)) (n .1) in
+      let n = and-parts (leb 6 (length s)) (ltb 0 (u16At s 0) && ltb 0 (u32At s 2)) (hs .1) in
+      let m = and-parts (ltb 0 (u16At s 0)) (ltb 0 (u32At s 2)) (n .1) in
       let two-is : two ≡ definesPlace s = us .0 ∙ ap (after 1 s) (hs .0) in
       let three-is : three ≡ componentsPlace s = ds .0 ∙ ap (after 3 s) two-is in
       let rest-is : rest .0 ≡ resourcesPlace s = cs .0 ∙ ap (after 8 s) three-is in
@@ -112,7 +113,7 @@ module _ (s : List ℕ) where
   sound : eqb four (length s) && leb 6 four ≡ goodBytes s
   sound =
       same (eqb four (length s) && leb 6 four) (goodBytes s)
-      (λ t. of-facts s (read-facts (eqb-true _ _ (both (eqb four (length s)) (leb 6 four) t .0))))
+      (λ t. of-facts s (read-facts (eqb-true _ _ (and-parts (eqb four (length s)) (leb 6 four) t .0))))
       (λ g. let f = facts s g in let e = facts-read f in
       rw (eq-eqb four (length s) e, le-leb 6 four (omega (arith, f .ends))))
 

@@ -13,13 +13,14 @@ use Rattle.manifest.specs.Layout.{usesPlace, definesPlace, componentsPla
 use Rattle.manifest.specs.LayoutLaws.{length-entries}
 use Rattle.manifest.specs.Good.{usesRise, definesRise, componentsRise, resourcesRise, atMost, goodBytes}
 use Rattle.manifest.specs.Steps.{counted, endOf, usesEnd, definesEnd, componentsEnd, resourcesEnd}
-use Rattle.manifest.proofs.Counts.{both, counted-all, counted-fits, end-told}
+use Rattle.manifest.specs.GoodLaws.{and-parts}
+use Rattle.manifest.proofs.Counts.{counted-all, counted-fits, end-told}
 
 -- a section's test in the list's words
 module _ {A : Type 0} (f : List ℕ → ℕ → A) (size most : ℕ) (s : List ℕ) (a : ℕ) (ok : Bool) where
   few : (atMost most (section f size s a) && ok) ≡ true → (u8At s a ≤ most) × (ok ≡ true)
   few e =
-      let t = both (atMost most (section f size s a)) ok e in
+      let t = and-parts (atMost most (section f size s a)) ok e in
       (leb-true _ _ (rw (length-entries (f s) size (a + 1) (u8At s a)) at (t .0)), t .1)
 
   of-few : u8At s a ≤ most → ok ≡ true → (atMost most (section f size s a) && ok) ≡ true
@@ -31,7 +32,7 @@ module _ {A : Type 0} (f : List ℕ → ℕ → A) (size most : ℕ) (s : List �
 
   of-end : {p : ℕ} → endOf size most s a ok ≡ place.At p → (atMost most (section f size s a) && ok) ≡ true
   of-end e =
-      let t = both (counted size most s a) ok (end-told size most s a ok refl e .1) in
+      let t = and-parts (counted size most s a) ok (end-told size most s a ok refl e .1) in
       of-few (counted-fits size most s a (t .0) .1) (t .1)
 
 -- what good bytes come to, section by section
@@ -49,12 +50,12 @@ module _ (s : List ℕ) where
   tests : (a b c d e f g : Bool) → (a && (b && (c && (d && (e && (f && g)))))) ≡ true
       → (a ≡ true) × (b ≡ true) × (c ≡ true) × (d ≡ true) × (e ≡ true) × (f ≡ true) × (g ≡ true)
   tests a b c d e f g h =
-      let t1 = both a _ h in
-      let t2 = both b _ (t1 .1) in
-      let t3 = both c _ (t2 .1) in
-      let t4 = both d _ (t3 .1) in
-      let t5 = both e _ (t4 .1) in
-      let t6 = both f _ (t5 .1) in
+      let t1 = and-parts a _ h in
+      let t2 = and-parts b _ (t1 .1) in
+      let t3 = and-parts c _ (t2 .1) in
+      let t4 = and-parts d _ (t3 .1) in
+      let t5 = and-parts e _ (t4 .1) in
+      let t6 = and-parts f _ (t5 .1) in
       (t1 .0, t2 .0, t3 .0, t4 .0, t5 .0, t6 .0, t6 .1)
 
   pub facts : goodBytes s ≡ true → Facts s

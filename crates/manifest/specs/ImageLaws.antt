@@ -11,7 +11,7 @@ use native.Mathlib.Numerals.{add-one}
 use borrow.Author.Tests.{eq-eqb, eqb-true, leb-true, ltb-true, lt-ltb}
 use lib.ListN.{length, drop, length-append}
 use lib.Seq.{getD-append-add, drop-cons, drop-length}
-use lib.Dec.{eqb, leb, ltb}
+use lib.Dec.{eqb, leb}
 use Rattle.manifest.specs.declared.Define.{Define}
 use Rattle.manifest.specs.declared.Component.{Component}
 use Rattle.manifest.specs.declared.Resource.{Resource}
@@ -19,9 +19,10 @@ use Rattle.manifest.specs.Layout.{Manifest, laidOut, blank, manifestOf, 
 use Rattle.manifest.specs.Layout.{componentAt, resourceAt, entries, section, after, usesPlace, definesPlace}
 use Rattle.manifest.specs.Layout.{componentsPlace, resourcesPlace, endPlace}
 use Rattle.manifest.specs.LayoutLaws.{length-entries}
-use Rattle.manifest.specs.Good.{all, rising, atMost, goodUse, goodUses, usesRise, goodDefine, goodDefines}
-use Rattle.manifest.specs.Good.{definesRise, isProvider, goodComponent, goodComponents, componentsRise}
-use Rattle.manifest.specs.Good.{goodResources, resourcesRise, good, goodBytes}
+use Rattle.manifest.specs.Good.{all, atMost, goodUse, usesRise, goodDefine}
+use Rattle.manifest.specs.Good.{definesRise, isProvider, goodComponent, componentsRise}
+use Rattle.manifest.specs.Good.{resourcesRise, good, goodBytes}
+use Rattle.manifest.specs.GoodLaws.{and-parts, good-parts, all-rising}
 use Rattle.manifest.specs.Image.{le16, le32, useBytes, defineBytes, componentBytes, resourceBytes, joined}
 use Rattle.manifest.specs.Image.{sectionBytes, image, isByte, is16, is32, resourceInWidth, inWidth}
 
@@ -382,10 +383,6 @@ module _ (s : List ℕ) (bytes : (k : ℕ) → u8At s k < 256) where
       sym (rw (l, g, lo 0 1, hi 0 1, lo 2 3, hi 2 3, lo 4 5, hi 4 5) t)
 
 -- ---- the image consists of bytes
-and-parts : (a b : Bool) → (a && b) ≡ true → (a ≡ true) × (b ≡ true)
-and-parts true b e = (refl, e)
-and-parts false b e = absurd (let z : _≡_ {A = ℕ} 0 1 = cc in omega arith)
-
 all-append : {A : Type 0} (ok : A → Bool) (xs ys : List A) → all ok xs ≡ true → all ok ys ≡ true → all ok (xs ++ ys)
     ≡ true
 unfolding all
@@ -393,15 +390,6 @@ all-append ok [] ys h k = k
 all-append ok (x ∷ xs) ys h k =
     let t = and-parts (ok x) (all ok xs) h in
     rw (t .0) (all-append ok xs ys (t .1) k)
-
--- entries that rise each pass their test
-all-rising : {A : Type 0} (key : A → ℕ) (ok : A → Bool) (low : ℕ) (xs : List A) → rising key ok low xs ≡ true
-    → all ok xs ≡ true
-unfolding all
-all-rising key ok low [] h = refl
-all-rising key ok low (x ∷ xs) h =
-    let t = and-parts (ltb low (key x) && ok x) (rising key ok (key x) xs) h in
-    rw (and-parts (ltb low (key x)) (ok x) (t .0) .1) (all-rising key ok (key x) xs (t .1))
 
 byte : (n : ℕ) → n < 256 → isByte n ≡ true
 byte n h = lt-ltb n 256 h
@@ -507,29 +495,9 @@ resource-is-bytes r h =
     all-append isByte (le16 (r .provider)) (le16 (r .uri) ++ le32 (r .value)) (two-bytes (r .provider) (t .0))
     (all-append isByte (le16 (r .uri)) (le32 (r .value)) (two-bytes (r .uri) (u .0)) (four-bytes (r .value) (u .1)))
 
--- the tests of a good manifest, one by one
-record Tests (m : Manifest) : Type 0 where
-  uses : goodUses (m .uses) ≡ true
-  defines : goodDefines (m .defines) ≡ true
-  components : goodComponents (m .components) ≡ true
-  resources : goodResources (m .components) (m .resources) ≡ true
-
-tests : (m : Manifest) → good m ≡ true → Tests m
-tests m h =
-    let r : Bool = goodResources (m .components) (m .resources) in
-    let c : Bool = goodComponents (m .components) && r in
-    let d : Bool = goodDefines (m .defines) && c in
-    let u : Bool = goodUses (m .uses) && d in
-    let t1 = and-parts (ltb 0 (m .app)) (ltb 0 (m .signer) && u) h in
-    let t2 = and-parts (ltb 0 (m .signer)) u (t1 .1) in
-    let t3 = and-parts (goodUses (m .uses)) d (t2 .1) in
-    let t4 = and-parts (goodDefines (m .defines)) c (t3 .1) in
-    let t5 = and-parts (goodComponents (m .components)) r (t4 .1) in
-    record { uses = t3 .0; defines = t4 .0; components = t5 .0; resources = t5 .1 }
-
 pub image-is-bytes : (m : Manifest) → good m ≡ true → inWidth m ≡ true → all isByte (image m) ≡ true
 image-is-bytes m h wide =
-    let t = tests m h in
+    let t = good-parts m h in
     let us = and-parts (atMost 32 (m .uses)) (usesRise 0 (m .uses)) (t .uses) in
     let ds = and-parts (atMost 16 (m .defines)) (definesRise 0 (m .defines)) (t .defines) in
     let cs = and-parts (atMost 16 (m .components)) (componentsRise 0 (m .components)) (t .components) in
@@ -567,7 +535,7 @@ section-length w size most long xs few =
 
 pub image-length : (m : Manifest) → good m ≡ true → length (image m) ≤ 474
 image-length m h =
-    let t = tests m h in
+    let t = good-parts m h in
     let U = sectionBytes useBytes (m .uses) in
     let D = sectionBytes defineBytes (m .defines) in
     let C = sectionBytes componentBytes (m .components) in

@@ -1,6 +1,7 @@
 pub mod Layout
 pub mod LayoutLaws
 pub mod Good
+pub mod GoodLaws
 pub mod Image
 pub mod ImageLaws
 pub mod Verdict

@@ -4,7 +4,7 @@ use lib.ListN.{length}
 use lib.Dec.{eqb, leb}
 use native.Mathlib.Omega.{arith}
 use borrow.Author.Tests.{eqb-true, leb-true}
-use Rattle.manifest.proofs.Counts.{both}
+use Rattle.manifest.specs.GoodLaws.{and-parts}
 use Rattle.manifest.proofs.Places.{end-good, end-bad}
 use Rattle.manifest.proofs.ended_at.Statement.{statement}
 use Rattle.manifest.proofs.ended_at.Tie as tie
@@ -12,7 +12,7 @@ use Rattle.manifest.proofs.ended_at.Tie as tie
 sections-of-requires : tie.Need-sections-of-requires
 sections-of-requires c κs =
     let a = c .before .before .args in
-    let t = both (eqb (a .at) (length (now (a .s)))) (leb 6 (a .at)) (c .if1 .taken) in
+    let t = and-parts (eqb (a .at) (length (now (a .s)))) (leb 6 (a .at)) (c .if1 .taken) in
     omega (arith, eqb-true (a .at) (length (now (a .s))) (t .0), leb-true 6 (a .at) (t .1))
 
 returns : tie.Need-returns

@@ -7,14 +7,14 @@ use borrow.Author.Tests.{eqb-true, ltb-true}
 use borrow.Author.Needs.{needs}
 use Rattle.manifest.specs.Layout.{componentAt, entries}
 use Rattle.manifest.specs.Good.{any, isProviderOf}
-use Rattle.manifest.proofs.Counts.{both}
+use Rattle.manifest.specs.GoodLaws.{and-parts}
 use Rattle.manifest.proofs.knows_provider.Statement.{statement}
 use Rattle.manifest.proofs.knows_provider.Tie as tie
 
 returns : tie.Need-returns
 returns c =
     let a = c .before .before .args in
-    let t = both (eqb (a .p) (a .last)) (ltb 0 (a .last)) (c .if1 .taken) in
+    let t = and-parts (eqb (a .p) (a .last)) (ltb 0 (a .last)) (c .if1 .taken) in
     let same = eqb-true (a .p) (a .last) (t .0) in
     sym (ap (λ (q : ℕ). any (isProviderOf q) (entries (componentAt (now (a .s))) 8 (a .from) (a .count))) same ∙ c .before .before .pre .1 (ltb-true 0 (a .last) (t .1)))
 

@@ -9,7 +9,7 @@ use lib.Dec.{ltb}
 use denote.Ref.{now}
 use Rattle.manifest.specs.Layout.{componentAt, resourceAt, entries}
 use Rattle.manifest.specs.Good.{any, isProviderOf, resourcesRise, goodResource, resourceKey}
-use Rattle.manifest.proofs.Counts.{both}
+use Rattle.manifest.specs.GoodLaws.{and-parts}
 use Rattle.manifest.proofs.Turns.{rises-on, rises-not, rises-all}
 use Rattle.manifest.proofs.resources_rise.Statement.{statement}
 use Rattle.manifest.proofs.resources_rise.Tie as tie
@@ -59,8 +59,8 @@ loop-again c =
     let told = ap (λ (y : Bool). ltb 0 (read .resource-from .result .uri) && y) (c .before .before .before .knows-provider .ensures) in
     let ok = not-false _ (c .if1 .left) in
     let known = c .before .before .before .knows-provider in
-    let parts = both (ltb (c .before .before .before .before .before .before .loop .low) (c .before .before .resource-key .result)) (ltb 0 (read .resource-from .result .uri) && known .result) ok in
-    (omega arith, c .before .before .before .before .before .before .loop .inv .1 ∙ rises-on (resourceAt (now (a .s))) 8 resourceKey (goodResource (entries (componentAt (now (a .s))) 8 (a .components) (a .n))) _ _ _ (c .before .before .before .before .before .loop-test .taken) (read .resource-from .ensures) (c .before .before .resource-key .ensures) told ok, λ _. sym (known .ensures) ∙ both (ltb 0 (read .resource-from .result .uri)) (known .result) (parts .1) .1)
+    let parts = and-parts (ltb (c .before .before .before .before .before .before .loop .low) (c .before .before .resource-key .result)) (ltb 0 (read .resource-from .result .uri) && known .result) ok in
+    (omega arith, c .before .before .before .before .before .before .loop .inv .1 ∙ rises-on (resourceAt (now (a .s))) 8 resourceKey (goodResource (entries (componentAt (now (a .s))) 8 (a .components) (a .n))) _ _ _ (c .before .before .before .before .before .loop-test .taken) (read .resource-from .ensures) (c .before .before .resource-key .ensures) told ok, λ _. sym (known .ensures) ∙ and-parts (ltb 0 (read .resource-from .result .uri)) (known .result) (parts .1) .1)
 
 returns-2 : tie.Need-returns-2 Inv-loop μ-loop
 returns-2 c =
