@@ -3,3 +3,14 @@ pub mod Tape
 pub mod Sheet
 pub mod Marked
 pub mod Example
+pub mod SearchLaws
+pub mod AgreeRuns
+pub mod AgreeApps
+pub mod AgreeGrants
+pub mod AgreeValues
+pub mod AgreeLoans
+pub mod AgreePairs
+pub mod AgreeCounts
+pub mod AgreeLent
+pub mod Agree
+pub mod Demand3

@@ -1,5 +1,6 @@
 pub mod Lists
 pub mod ListsLaws
+pub mod UptoLaws
 pub mod Limits
 pub mod Action
 pub mod ActionLaws
@@ -11,3 +12,4 @@ pub mod Refusals
 pub mod Answer
 pub mod Order
 pub mod OrderLaws
+pub mod DoneLaws

@@ -568,6 +568,16 @@ find-in f g (y ∷ l) x e h = go (f y) e (λ q. find-in f g l x q h)
     go true e r = let z : y ≡ x = cc in rw (z, h)
     go false e r = rw (r e) (or-true (g y))
 
+-- what is found passes what all pass
+pub all-found : {A : Type 0} (f g : A → Bool) (l : List A) (x : A) → find f l ≡ some x → all g l ≡ true → g x ≡ true
+unfolding find all
+all-found f g [] x e h = absurd (true≢false cc)
+all-found f g (y ∷ l) x e h = go (f y) e (λ q. all-found f g l x q (and-right (g y) _ h))
+  where
+    go : (t : Bool) → cond t (some y) (find f l) ≡ some x → (find f l ≡ some x → g x ≡ true) → g x ≡ true
+    go true e more = let q : y ≡ x = cc in rw q at (and-left (g y) (all g l) h)
+    go false e more = more e
+
 pub find-mem : {A : Type 0} (f g : A → Bool) (l : List A) → ((x : A) → List·Memᴰ x l → f x ≡ g x) → find f l ≡ find g l
 unfolding find
 find-mem f g [] h = refl

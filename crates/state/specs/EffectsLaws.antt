@@ -30,7 +30,7 @@ keeps-none f x h = rw (
   and-false (carries writing (x .operations)),
 )
 
-carries-some : (x : Loan) → isOperations (x .operations) ≡ true → carriesAny x ≡ true
+pub carries-some : (x : Loan) → isOperations (x .operations) ≡ true → carriesAny x ≡ true
 unfolding carriesAny
 carries-some x e = sym (operations-if-any (λ op. carries op (x .operations)))
     ∙ ap isOperations (same-operations (x .operations) e) ∙ e

@@ -3,5 +3,15 @@ pub mod Effects
 pub mod EffectsLaws
 pub mod Valid
 pub mod Ok
+pub mod LookupLaws
+pub mod ManifestLaws
+pub mod Capacity
+pub mod CapacityLaws
+pub mod KeepsRows
+pub mod KeepsTables
+pub mod KeepsInstances
+pub mod KeepsLimits
+pub mod KeepsLoans
+pub mod Keeps
 pub mod Stored
 pub mod Step
