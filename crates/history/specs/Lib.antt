@@ -14,3 +14,7 @@ pub mod AgreeCounts
 pub mod AgreeLent
 pub mod Agree
 pub mod Demand3
+pub mod Ended
+pub mod EndedLaws
+pub mod Security
+pub mod SecurityLaws

@@ -14,4 +14,7 @@ pub mod KeepsLimits
 pub mod KeepsLoans
 pub mod Keeps
 pub mod Stored
+pub mod StoredLaws
+pub mod FormedLaws
 pub mod Step
+pub mod RefusalLaws
