@@ -1,0 +1,46 @@
+-- `cut_grants` meets its contract: the places from the end of the list on are made zero, one at each turn.
+use Rattle.tables.proofs.Kit.{ℕ, _-_, _≡_, refl, ap, _∙_, set, arith, needs, Bound, bound, grants-long}
+use Rattle.tables.proofs.Kit.{Cleared, cleared-begin, cleared-next, cleared-ends, cleared-count}
+use Rattle.state.specs.declared.App.{App}
+use Rattle.tables.specs.Changing.{regrant}
+use Rattle.tables.proofs.cut_grants.Statement.{statement}
+use Rattle.tables.proofs.cut_grants.Tie as tie
+
+abbrev Inv-loop : tie.InvT-loop
+Inv-loop count n t₀ j₀ t j = (t ≡ regrant t₀ (t .grants) (t₀ .granted)) × Cleared 0 (t₀ .grants) 32 n j (t .grants)
+
+abbrev μ-loop : tie.MeasureT-loop
+μ-loop count n t₀ j₀ t j = 32 - j
+
+loop-holds : tie.Need-loop-holds Inv-loop μ-loop
+loop-holds c = (refl, cleared-begin (grants-long (c .before .args .app) (c .before .good .0)) (omega arith))
+
+loop-again : tie.Need-loop-again Inv-loop μ-loop
+loop-again c =
+    let l = c .before .loop in
+    (ap (λ (a : App). regrant a (set (l .t .grants) (l .j) 0) (a .granted)) (l .inv .0), cleared-next (l .inv .1) (c .loop-test .taken))
+
+returns : tie.Need-returns Inv-loop μ-loop
+returns c =
+    let s = c .before .before .before in
+    let l = c .before .loop in
+    let n : ℕ = c .before .before .within .result in
+    let b : Bound (s .args .app .grants) (s .args .count) n =
+    bound (s .args .count) (grants-long (s .args .app) (s .good .0)) (c .before .before .within .ensures) in
+    let e : regrant (l .t) (l .t .grants) n ≡ regrant (s .args .app) (l .t .grants) n = ap (λ (a : App). regrant a (l .t .grants) n) (l .inv .0) in
+    e ∙ cc (cleared-ends (l .inv .1) (c .loop-test .left), cleared-count (l .inv .1), b .same)
+
+pub cut-grants-spec : {M : Type 1} → statement M
+cut-grants-spec =
+    tie.close
+    (tie.spec
+    Inv-loop
+    μ-loop
+    (λ c κs. search needs)
+    loop-holds
+    (λ c. omega arith)
+    (λ c. omega arith)
+    (λ c. omega arith)
+    loop-again
+    (λ c. omega arith)
+    returns)

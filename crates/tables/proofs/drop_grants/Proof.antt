@@ -1,0 +1,54 @@
+-- `drop_grants` meets its contract: at each turn one entry more of the list is changed.
+use Rattle.tables.proofs.Kit.{ℕ, _-_, _≡_, refl, List, arith, needs, Bound, bound, apps-long}
+use Rattle.tables.proofs.Kit.{Mapped, mapped-begin, mapped-next, mapped-ends}
+use mathlib.Core.Path.{ap₂}
+use Rattle.state.specs.declared.App.{App}
+use Rattle.state.specs.declared.Apps.{Apps}
+use Rattle.tables.specs.Held.{definitionsIn}
+use Rattle.tables.specs.Changing.{undefinedGrants, dropGrants}
+use Rattle.tables.proofs.drop_grants.Statement.{statement}
+use Rattle.tables.proofs.drop_grants.Tie as tie
+
+abbrev Inv-loop : tie.InvT-loop
+Inv-loop definitions app n t₀ i₀ t i = (t .count ≡ t₀ .count) × Mapped (undefinedGrants (definitionsIn definitions) app) (t₀ .entries) n i (t .entries)
+
+abbrev μ-loop : tie.MeasureT-loop
+μ-loop definitions app n t₀ i₀ t i = n - i
+
+abbrev table : List App → ℕ → Apps
+table l k = record { entries = l; count = k }
+
+start : (c : tie.After-within Inv-loop μ-loop) → Bound (c .before .args .apps .entries) (c .before .args .apps .count) (c .within .result)
+start c = bound _ (apps-long (c .before .args .apps) (c .before .good .0)) (c .within .ensures)
+
+loop-holds : tie.Need-loop-holds Inv-loop μ-loop
+loop-holds c = (refl, mapped-begin (start c))
+
+loop-again : tie.Need-loop-again Inv-loop μ-loop
+loop-again c =
+    let l = c .before .before .before .loop in
+    (l .inv .0, mapped-next (l .inv .1) (c .before .before .loop-test .taken) _ (c .undefined-grants .ensures))
+
+returns : tie.Need-returns Inv-loop μ-loop
+unfolding dropGrants
+returns c =
+    let l = c .before .loop in
+    ap₂ table (mapped-ends (l .inv .1) (start (c .before .before)) (c .loop-test .left)) (l .inv .0)
+
+pub drop-grants-spec : {M : Type 1} → statement M
+drop-grants-spec =
+    tie.close
+    (tie.spec
+    Inv-loop
+    μ-loop
+    (λ c κs. search needs)
+    loop-holds
+    (λ c. omega arith)
+    (λ c. omega arith)
+    (λ c κs. search needs)
+    (λ c. omega arith)
+    (λ c. omega arith)
+    (λ c. omega arith)
+    (λ c. omega arith)
+    loop-again
+    returns)

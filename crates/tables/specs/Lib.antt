@@ -1,0 +1,12 @@
+pub mod Held
+pub mod Scan
+pub mod Finding
+pub mod FindingLaws
+pub mod Looking
+pub mod LookingLaws
+pub mod Running
+pub mod RunningLaws
+pub mod Changing
+pub mod ChangingLaws
+pub mod HeldLaws
+pub mod Unique
