@@ -14,6 +14,9 @@ pub mod AgreeCounts
 pub mod AgreeLent
 pub mod Agree
 pub mod Demand3
+pub mod TapeLaws
+pub mod Run
+pub mod RunLaws
 pub mod Ended
 pub mod EndedLaws
 pub mod Security

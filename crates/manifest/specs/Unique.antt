@@ -3,11 +3,13 @@
 use Prim.Native.Nat.{ℕ}
 use mathlib.Core.Path.{_≡_, sym, _∙_}
 use mathlib.Core.List.{List}
+use mathlib.Core.Bool.{Bool}
 use Rattle.manifest.specs.declared.Define.{Define}
 use Rattle.manifest.specs.declared.Component.{Component}
 use Rattle.manifest.specs.declared.Resource.{Resource}
 use Rattle.manifest.specs.declared.Verdict.{Verdict}
 use Rattle.manifest.specs.Layout.{u8At, defineAt, componentAt, resourceAt}
+use Rattle.manifest.specs.Good.{goodDefine, goodComponent, resourceKey}
 use Rattle.manifest.specs.Verdict.{verdictOf, answerOf, entryAt, zeroDefine, zeroComponent, zeroResource}
 
 -- the general law: what is equal to one thing is equal
@@ -34,3 +36,12 @@ component-at-only s at = only-one (entryAt zeroComponent componentAt 8 s at)
 pub resource-at-only : (s : List ℕ) (at : ℕ) (r r′ : Resource) → r ≡ entryAt zeroResource resourceAt 8 s at → r′
     ≡ entryAt zeroResource resourceAt 8 s at → r ≡ r′
 resource-at-only s at = only-one (entryAt zeroResource resourceAt 8 s at)
+
+pub good-define-only : (d : Define) (r r′ : Bool) → r ≡ goodDefine d → r′ ≡ goodDefine d → r ≡ r′
+good-define-only d = only-one (goodDefine d)
+
+pub good-component-only : (c : Component) (r r′ : Bool) → r ≡ goodComponent c → r′ ≡ goodComponent c → r ≡ r′
+good-component-only c = only-one (goodComponent c)
+
+pub resource-key-only : (e : Resource) (r r′ : ℕ) → r ≡ resourceKey e → r′ ≡ resourceKey e → r ≡ r′
+resource-key-only e = only-one (resourceKey e)

@@ -425,7 +425,8 @@ fn has_provider(s: &[u8], from: usize, count: usize, p: u16) -> bool
     false
 }
 
-fn good_define(d: Define) -> bool
+/// The tests of one entry, as the valid state has them too; and the key by which resources rise.
+pub fn good_define(d: Define) -> bool
     ensures { λ r. ⌜ r ≡ goodDefine d ⌝ }
 {
     (16 <= d.permission)
@@ -435,7 +436,7 @@ fn good_define(d: Define) -> bool
         & ((d.level == 1) | (d.group == 0))
 }
 
-fn good_component(c: Component) -> bool
+pub fn good_component(c: Component) -> bool
     ensures { λ r. ⌜ r ≡ goodComponent c ⌝ }
 {
     let provider = c.kind == 4;
@@ -457,7 +458,7 @@ fn is_provider_of(c: Component, p: u16) -> bool
     (c.number == p) & (c.kind == 4)
 }
 
-fn resource_key(r: Resource) -> u32
+pub fn resource_key(r: Resource) -> u32
     ensures { λ k. ⌜ k ≡ resourceKey r ⌝ }
 {
     wide32(r.provider) * 65536 + wide32(r.uri)

@@ -3,8 +3,8 @@
 use Prim.Native.Nat.{ℕ, zero, suc, _+_, _-_, _*_, _/_, _%_, _≤_}
 use mathlib.Core.Path.{_≡_, refl, sym, ap, subst, _∙_}
 use mathlib.Core.Bool.{Bool, true, false, _&&_, cond}
-use mathlib.Core.List.{List, [], _∷_, _++_, map, List·Memᴰ}
-use lib.ListN.{length, take, drop, replicate, length-append, length-replicate}
+use mathlib.Core.List.{List, [], _∷_, map, List·Memᴰ}
+use lib.ListN.{length, take, replicate, length-append, length-replicate}
 use lib.Seq.{take-append-seam, drop-append-seam}
 use lib.Count.{ones, ones-step}
 use lib.Dec.{eqb, leb}
@@ -99,10 +99,11 @@ fits-formed s f =
     apps : pads isZeroApp 16 (padded zeroApp 16 (map appFrom (s .rows))) (length (s .rows)) ≡ true
     apps = subst (λ (n : ℕ). pads isZeroApp 16 (padded zeroApp 16 (map appFrom (s .rows))) n ≡ true)
         (length-map appFrom (s .rows))
-        (padded-pads zeroApp 16 (map appFrom (s .rows)) isZeroApp zero-app (rw (length-map appFrom (s .rows)) (f .apps)))
+        (padded-pads zeroApp 16 (map appFrom (s .rows)) isZeroApp zero-app
+        (rw (length-map appFrom (s .rows)) (f .apps)))
 
-    running : eqb (maskOf (s .instances)) (maskOf (take (length (s .instances)) (padded zeroInstance 64 (s .instances))))
-        ≡ true
+    running : eqb (maskOf (s .instances))
+        (maskOf (take (length (s .instances)) (padded zeroInstance 64 (s .instances)))) ≡ true
     running = rw (padded-list zeroInstance 64 (s .instances)) (eq-eqb (maskOf (s .instances)) _ refl)
 
     loans : pads isZeroLoan (length (lentOf 128 s)) (lentOf 128 s) (length (s .loans)) ≡ true

@@ -1,0 +1,9 @@
+pub mod Answering
+pub mod AnsweringLaws
+pub mod GroundsLaws
+pub mod Starting
+pub mod StartingLaws
+pub mod Installing
+pub mod InstallingLaws
+pub mod LoansLaws
+pub mod Unique

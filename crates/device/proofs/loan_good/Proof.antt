@@ -1,0 +1,20 @@
+-- The parts of the test are those of the definition; a provider that is missing shares nothing.
+use Rattle.rules.specs.Action.{isOperations}
+use Rattle.state.specs.Valid.{isSharingProvider}
+use Rattle.tables.specs.Held.{partsIn}
+use Rattle.device.specs.PartLaws.{part-test-or}
+use Rattle.device.proofs.Kit.{refl, needs}
+use Rattle.device.proofs.loan_good.Statement.{statement}
+use Rattle.device.proofs.loan_good.Tie as tie
+
+returns : tie.Need-returns
+unfolding isOperations
+returns c = rw (
+  part-test-or isSharingProvider refl (partsIn (c .before .before .before .before .before .before .before .before .args .d .parts)) (c .before .before .before .before .before .before .before .before .args .x .provider),
+  c .before .before .before .before .before .before .before .live .ensures,
+  c .before .before .before .before .before .before .part-at .ensures,
+  c .before .before .has-resource .ensures,
+)
+
+pub loan-good-spec : {M : Type 1} → statement M
+loan-good-spec = tie.close (tie.spec (λ c κs. search needs) (λ c κs. search needs) (λ c κs. search needs) returns)

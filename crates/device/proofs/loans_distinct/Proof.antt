@@ -1,0 +1,45 @@
+-- The loop looks for each entry again from the next place on, and finds none or one that is there twice.
+use Rattle.state.specs.Valid.{sameLoan}
+use Rattle.device.proofs.Kit.{_≡_, _∙_, sym, _-_, arith, needs, length, take, distinct, Pairs, pairs-from, pairs-next, pairs-fails, pairs-ends}
+use Rattle.device.proofs.loans_distinct.Statement.{statement}
+use Rattle.device.proofs.loans_distinct.Tie as tie
+
+abbrev Inv-loop : tie.InvT-loop
+Inv-loop count lent i₀ i = Pairs sameLoan lent count (distinct sameLoan (take count lent)) i
+
+abbrev μ-loop : tie.MeasureT-loop
+μ-loop count lent i₀ i = count - i
+
+long : (c : tie.Start Inv-loop μ-loop) → length (c .args .t1) ≡ 128
+long c = c .good .0 .1 .0 .1
+
+loop-holds : tie.Need-loop-holds Inv-loop μ-loop
+loop-holds c = pairs-from (omega (arith, long c))
+
+returns : tie.Need-returns Inv-loop μ-loop
+returns c = pairs-fails (c .before .before .before .before .loop .inv) (c .before .before .before .loop-test .taken) _
+    (sym (c .before .loan-again .ensures) ∙ c .if1 .taken)
+
+loop-again : tie.Need-loop-again Inv-loop μ-loop
+loop-again c = pairs-next (c .before .before .before .before .loop .inv) (c .before .before .before .loop-test .taken) _
+    (sym (c .before .loan-again .ensures) ∙ c .if1 .left)
+
+returns-2 : tie.Need-returns-2 Inv-loop μ-loop
+returns-2 c = pairs-ends (c .before .loop .inv) (c .loop-test .left)
+
+pub loans-distinct-spec : {M : Type 1} → statement M
+loans-distinct-spec =
+    tie.close
+    (tie.spec
+    Inv-loop
+    μ-loop
+    loop-holds
+    (λ c. omega arith)
+    (λ c. omega arith)
+    (λ c. omega arith)
+    (λ c κs. search needs)
+    returns
+    (λ c. omega arith)
+    (λ c. omega arith)
+    loop-again
+    returns-2)

@@ -1,0 +1,5 @@
+pub mod Tests
+pub mod ScanLaws
+pub mod PartLaws
+pub mod StoredLaws
+pub mod ValidLaws
