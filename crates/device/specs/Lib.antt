@@ -3,3 +3,4 @@ pub mod ScanLaws
 pub mod PartLaws
 pub mod StoredLaws
 pub mod ValidLaws
+pub mod Unique

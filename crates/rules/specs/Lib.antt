@@ -17,3 +17,4 @@ pub mod OrderLaws
 pub mod WellFormed
 pub mod RecordLaws
 pub mod DoneLaws
+pub mod Unique

@@ -1,0 +1,4 @@
+pub mod Stepping
+pub mod Written
+pub mod Reading
+pub mod Filled
