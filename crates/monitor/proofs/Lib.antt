@@ -1,2 +1,4 @@
 pub mod Sizes
 pub mod Kit
+pub mod Walk
+pub mod Again

@@ -8,4 +8,6 @@ pub mod InstallLaws
 pub mod RangeLaws
 pub mod UnaskedLaws
 pub mod StepLaws
+pub mod Lending
+pub mod LendingLaws
 pub mod Unique

@@ -2,6 +2,7 @@
 
 use answers::Receiver as WideReceiver;
 use loans::Asked;
+use loans::Lent;
 use loans::Loans;
 use loans::Receiver;
 use manifest::Section;
@@ -36,6 +37,8 @@ ghost use Rattle.loans.specs.Held.{receiverOf};
 ghost use Rattle.loans.specs.Asked.{actionFrom};
 ghost use Rattle.answers.specs.Answering.{receiverOf as wideReceiver};
 ghost use Rattle.monitor.specs.Stepped.{answerTo, steppedBy, stepped};
+ghost use Rattle.state.specs.Step.{stepAnswer, stepDevice, stepLent};
+ghost use Rattle.monitor.specs.Lending.{steppedLent, outcome};
 ghost use Rattle.monitor.specs.Made.{asking, withInstances, withLent, grantMade, writeMade, startMade};
 ghost use Rattle.monitor.specs.Made.{uninstallMade};
 ghost use Rattle.monitor.specs.Installing.{appendAll, newRow, addUse, Within, appMade, installMade};
@@ -45,6 +48,93 @@ pub struct Stepped {
     pub device: Device,
     pub lent: [Loan; 128],
     pub answer: Answer,
+}
+
+/// What comes back of a step that leaves its loan table where it is lent.
+pub struct Outcome {
+    pub device: Device,
+    pub answer: Answer,
+}
+
+// What a step leaves, what comes back, and which records of the table to write.
+struct Written {
+    device: Device,
+    answer: Answer,
+    table: [Loan; 128],
+    from: usize,
+    to: usize,
+}
+
+/// One step over a lent loan table: only the records that change are written. A table that has not 128 records is
+/// refused with its device, and both stay as they are.
+pub fn step(d: Device, lent: &mut [Loan], action: &[u8], bytes: &[u8]) -> Outcome
+    ensures { λ r. ⌜ (r ≡ record {
+      device = stepDevice d (now (lent .entry)) (now (action .entry)) (now (bytes .entry));
+      answer = stepAnswer d (now (lent .entry)) (now (action .entry)) (now (bytes .entry));
+    })
+        × (now (lent .exit) ≡ stepLent d (now (lent .entry)) (now (action .entry)) (now (bytes .entry))) ⌝ }
+{
+    let out = loans::copy_out(lent);
+    let s = step_lent(d, out, action, bytes);
+    let table = table_of(s);
+    let from = from_of(s);
+    let to = to_of(s);
+    loans::write_records(lent, table, from, to);
+    outcome_of(s)
+}
+
+fn step_lent(d: Device, out: Lent, action: &[u8], bytes: &[u8]) -> Written
+    ensures { λ r. ⌜ r ≡ steppedLent d out (now (action .entry)) (now (bytes .entry)) ⌝ }
+{
+    let old = out.table;
+    if out.length == 128 {
+        let s = step_table(d, old, action, bytes);
+        let device = s.device;
+        let answer = s.answer;
+        let table = s.lent;
+        let range = loans::changed(old, table);
+        return Written {
+            device,
+            answer,
+            table,
+            from: range.from,
+            to: range.to,
+        };
+    }
+    Written {
+        device: d,
+        answer: Answer::Refused(Reason::StateNotValid),
+        table: old,
+        from: 0,
+        to: 0,
+    }
+}
+
+fn table_of(s: Written) -> [Loan; 128]
+    ensures { λ r. ⌜ r ≡ s .table ⌝ }
+{
+    let t = s.table;
+    t
+}
+
+fn from_of(s: Written) -> usize
+    ensures { λ r. ⌜ r ≡ s .from ⌝ }
+{
+    s.from
+}
+
+fn to_of(s: Written) -> usize
+    ensures { λ r. ⌜ r ≡ s .to ⌝ }
+{
+    s.to
+}
+
+fn outcome_of(s: Written) -> Outcome
+    ensures { λ r. ⌜ r ≡ outcome s ⌝ }
+{
+    let device = s.device;
+    let answer = s.answer;
+    Outcome { device, answer }
 }
 
 /// One step over the loan table by value: a device that is not valid with its loan table is refused and left as it is.
