@@ -39,7 +39,7 @@ ghost use Rattle.rules.specs.Refusals.{noReceivingApp, noReceivingInstance};
 ghost use Rattle.rules.specs.Limits.{large};
 ghost use Rattle.state.specs.Stored.{rowOf};
 ghost use Rattle.state.specs.Tables.{partAt, appsOf, appAt, isLoan, lentIn, valueIn};
-ghost use Rattle.tables.specs.Held.{rowsIn, definitionsIn, partsIn, resourcesIn, instancesIn, appsIn};
+ghost use Rattle.tables.specs.Held.{rowsIn, partsIn, resourcesIn, instancesIn, appsIn};
 ghost use Rattle.tables.specs.Finding.{placeOf, isInstance, isApp};
 ghost use Rattle.tables.specs.Looking.{viewBy, opOf};
 ghost use Rattle.answers.specs.Answering.{permissionsView, partsView, runsView};

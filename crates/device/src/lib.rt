@@ -2,7 +2,6 @@
 //! Document 01, "A valid state".
 
 use manifest::Component;
-use manifest::Define;
 use manifest::Resource;
 use rules::Definition;
 use rules::Instance;

@@ -1,5 +1,5 @@
--- What a monitor makes of a tape's records, one after the other from the fresh device, and the sheet that it gives:
--- document 01, "The tape and the answer sheet".
+-- What a monitor makes of a tape's records, one after the other, at any device and the table lent to it, and the sheet
+-- that it gives from the fresh ones: document 01, "The tape and the answer sheet".
 use Prim.Native.Nat.{ℕ, zero, suc, _+_}
 use mathlib.Core.Bool.{cond}
 use mathlib.Core.List.{List, [], _++_}
@@ -54,17 +54,18 @@ module _ (m : Steps) (s : List ℕ) where
       }
 
   -- after the first n records
-  unfoldable pub heldAt : ℕ → Held
-  heldAt zero = freshHeld
-  heldAt (suc n) = heldAfter (heldAt n) n
+  unfoldable pub heldAt : Held → ℕ → Held
+  heldAt h zero = h
+  heldAt h (suc n) = heldAfter (heldAt h n) n
 
   -- the lines of the first n records
-  unfoldable pub runLines : ℕ → List ℕ
-  runLines zero = []
-  runLines (suc n) = runLines n ++ lineText (n + 1) (codeAt s n) (answerTo (heldAt n) n)
+  unfoldable pub runLines : Held → ℕ → List ℕ
+  runLines h zero = []
+  runLines h (suc n) = runLines h n ++ lineText (n + 1) (codeAt s n) (answerTo (heldAt h n) n)
 
+  -- from the fresh device: the lines, and the last line
   unfoldable pub runText : ℕ → List ℕ
-  runText n = runLines n ++ lastText (heldAt n .device)
+  runText n = runLines freshHeld n ++ lastText (heldAt freshHeld n .device)
 
   unfoldable pub runSheet : List ℕ
   runSheet =

@@ -21,8 +21,8 @@ use Rattle.history.specs.Tape.{actionAt, actionsBefore, actionCount, rec
 use Rattle.history.specs.Tape.{handed}
 use Rattle.history.specs.Sheet.{linesText, endLine, sheetOf, sheet, sheetOfLog}
 use Rattle.history.specs.Demand3.{sheets-agree}
-use Rattle.history.specs.Run.{monitorSteps, Held, heldAt, answerTo, countsText, lastText, runLines, runText}
-use Rattle.history.specs.Run.{runSheet}
+use Rattle.history.specs.Run.{monitorSteps, Held, freshHeld, heldAt, answerTo, countsText, lastText, runLines}
+use Rattle.history.specs.Run.{runText, runSheet}
 
 -- ---- a step at the arrays of a valid state
 module _ (s : State) (reached : valid large s ≡ true) (action manifest : List ℕ) where
@@ -61,7 +61,7 @@ module _ (s : List ℕ) where
   unfolding device actionsBefore
   stateAt-next n = refl
 
-  pub run-held : (n : ℕ) → heldAt monitorSteps s n ≡ storedAt n
+  pub run-held : (n : ℕ) → heldAt monitorSteps s freshHeld n ≡ storedAt n
   unfolding heldAt
   run-held zero = unfold device actionsBefore in refl
   run-held (suc n) = rw (run-held n, stateAt-next n) (go (recordBytes s n) (handed s (placeNamed s n)))
@@ -82,7 +82,7 @@ module _ (s : List ℕ) where
           )
 
   -- each record is answered as the log has it
-  pub run-answers : (n : ℕ) → answerTo monitorSteps s (heldAt monitorSteps s n) n
+  pub run-answers : (n : ℕ) → answerTo monitorSteps s (heldAt monitorSteps s freshHeld n) n
       ≡ answer large (viewOf (stateAt n)) (actionAt s n)
   unfolding monitorSteps
   run-answers n = rw (run-held n)
@@ -94,17 +94,17 @@ module _ (s : List ℕ) where
   log-length zero = refl
   log-length (suc n) = ap suc (log-length n)
 
-  pub run-lines : (n : ℕ) → runLines monitorSteps s n ≡ linesText s (log large (actionsBefore s n))
+  pub run-lines : (n : ℕ) → runLines monitorSteps s freshHeld n ≡ linesText s (log large (actionsBefore s n))
   unfolding runLines linesText log actionsBefore
   run-lines zero = refl
   run-lines (suc n) = rw (run-lines n, log-length n, run-answers n)
 
   -- and the counts at the end are those of the state
-  pub run-counts : (n : ℕ) → lastText (heldAt monitorSteps s n .device) ≡ endLine (viewOf (stateAt n))
+  pub run-counts : (n : ℕ) → lastText (heldAt monitorSteps s freshHeld n .device) ≡ endLine (viewOf (stateAt n))
   unfolding endLine countsText viewOf deviceOf
   run-counts n = rw (run-held n, ones-running (stateAt n) (reached-valid large (actionsBefore s n)))
 
-  -- THE SHEET OF A RUN is that of the definitions, and so the one worked out from the log alone
+  -- the sheet of a run is that of the definitions, and so the one worked out from the log alone
   pub run-sheet : runSheet monitorSteps s ≡ sheet s
   unfolding runSheet runText sheet sheetOf
   run-sheet = rw (run-lines (actionCount s), run-counts (actionCount s))

@@ -33,7 +33,8 @@ module _ (d : Device) (out : Lent) (action manifest : List ℕ) where
   lent-full e s f r g =
       let w : record { device = s .device; answer = s .answer; table = s .lent; from = r .from; to = r .to }
       ≡ writing (out .table) s =
-      ap (λ (z : Range). record { device = s .device; answer = s .answer; table = s .lent; from = z .from; to = z .to }) g in
+      ap (λ (z : Range). record { device = s .device; answer = s .answer; table = s .lent; from = z .from; to = z .to })
+      g in
       w ∙ ap (writing (out .table)) f ∙ rw (eq-eqb (out .length) 128 e)
 
   pub lent-short : (out .length ≡ 128 → ⊥) → nothingTo d (out .table) ≡ steppedLent d out action manifest

@@ -41,7 +41,7 @@ ghost use Rattle.state.specs.Step.{stepAnswer, stepDevice, stepLent};
 ghost use Rattle.monitor.specs.Lending.{steppedLent, outcome};
 ghost use Rattle.monitor.specs.Made.{asking, withInstances, withLent, grantMade, writeMade, startMade};
 ghost use Rattle.monitor.specs.Made.{uninstallMade};
-ghost use Rattle.monitor.specs.Installing.{appendAll, newRow, addUse, Within, appMade, installMade};
+ghost use Rattle.monitor.specs.Installing.{appendAll, newRow, addUse, Within, installMade};
 
 /// What a step leaves, and what comes back.
 pub struct Stepped {
@@ -745,13 +745,11 @@ fn after_stop(d: Device, lent: [Loan; 128], instance: u16, answer: Answer) -> St
             ground: _,
             value: _,
         } => {
-            let left = loans::reduce_stop(
-                Loans {
-                    entries: lent,
-                    count: d.lent,
-                },
-                instance,
-            );
+            let table = Loans {
+                entries: lent,
+                count: d.lent,
+            };
+            let left = loans::reduce_stop(table, instance);
             let device = stop_made(d, instance, left.count);
             let entries = left.entries;
             Stepped {
@@ -786,15 +784,11 @@ fn after_withdraw(
             ground: _,
             value: _,
         } => {
-            let left = loans::reduce_withdraw(
-                Loans {
-                    entries: lent,
-                    count: d.lent,
-                },
-                provider,
-                uri,
-                operations,
-            );
+            let table = Loans {
+                entries: lent,
+                count: d.lent,
+            };
+            let left = loans::reduce_withdraw(table, provider, uri, operations);
             let device = loans_made(d, left.count);
             let entries = left.entries;
             Stepped {
@@ -821,14 +815,11 @@ fn after_uninstall(d: Device, lent: [Loan; 128], app: u16, answer: Answer) -> St
             ground: _,
             value: _,
         } => {
-            let left = loans::reduce_uninstall(
-                Loans {
-                    entries: lent,
-                    count: d.lent,
-                },
-                d.parts,
-                app,
-            );
+            let table = Loans {
+                entries: lent,
+                count: d.lent,
+            };
+            let left = loans::reduce_uninstall(table, d.parts, app);
             let device = uninstall_made(d, app, left.count);
             let entries = left.entries;
             Stepped {
@@ -865,18 +856,13 @@ fn after_lend(
             ground: _,
             value: _,
         } => {
-            let all = loans::lend(
-                Loans {
-                    entries: lent,
-                    count: d.lent,
-                },
-                to,
-                provider,
-                uri,
-                operations,
-            );
-            let device = loans_made(d, all.count);
-            let entries = all.entries;
+            let table = Loans {
+                entries: lent,
+                count: d.lent,
+            };
+            let left = loans::lend(table, to, provider, uri, operations);
+            let device = loans_made(d, left.count);
+            let entries = left.entries;
             Stepped {
                 device,
                 lent: entries,

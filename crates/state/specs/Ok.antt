@@ -12,7 +12,8 @@ use Rattle.rules.specs.Action.{isOperations}
 use Rattle.rules.specs.Refusals.{isGroup}
 use Rattle.state.specs.Tables.{Row, State, appNumber, partAt, isResource}
 use Rattle.state.specs.Valid.{sameApp, samePart, sameResource, samePermission, sameInstance, sameLoan}
-use Rattle.state.specs.Valid.{isInstalled, manifestFrom, goodGrant, isLive, isSharingProvider, tests, every, valid}
+use Rattle.state.specs.Valid.{isInstalled, manifestFrom, goodGrant, isLive, isSharingProvider, tests, every}
+use Rattle.state.specs.Valid.{valid}
 
 -- the rows by themselves
 pub record RowsOk (rs : List Row) : Type 0 where
@@ -37,7 +38,8 @@ pub record TablesOk (s : State) : Type 0 where
 pub record InstancesOk (L : Limits) (s : State) : Type 0 where
   pub numbers : distinct sameInstance (s .instances) ≡ true
   pub range : all (λ i. leb 1 (i .number) && leb (i .number) (L .instances)) (s .instances) ≡ true
-  pub components : all (λ i. test (partAt (s .parts) (i .component)) (λ k. not (isProvider (k .component)))) (s .instances) ≡ true
+  pub components : all (λ i. test (partAt (s .parts) (i .component)) (λ k. not (isProvider (k .component))))
+      (s .instances) ≡ true
 
 pub record LoansOk (s : State) : Type 0 where
   pub operations : all (λ x. isOperations (x .operations)) (s .loans) ≡ true

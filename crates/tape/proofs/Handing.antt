@@ -10,7 +10,7 @@ use Rattle.rules.specs.declared.Loan.{Loan}
 use Rattle.state.specs.declared.Device.{Device}
 use Rattle.monitor.specs.declared.Stepped.{Stepped}
 use Rattle.history.specs.Tape.{manifestCount, manifestPlace, manifestBytes, recordBytes, placeNamed, handed}
-use Rattle.tape.specs.Stepping.{stepping}
+use Rattle.history.specs.Run.{monitorSteps}
 use Rattle.tape.specs.Reading.{TapeAt, stepped}
 
 -- a part of a slice, as the code lends it
@@ -25,9 +25,9 @@ module _ (s : List ℕ) (d : Device) (lent : List Loan) (p i : ℕ) (t : TapeAt 
   abbrev made : (action manifest : List ℕ) → Stepped
   made a m =
       record {
-        device = stepping .device d lent a m;
-        lent = stepping .lent d lent a m;
-        answer = stepping .answer d lent a m;
+        device = monitorSteps .device d lent a m;
+        lent = monitorSteps .lent d lent a m;
+        answer = monitorSteps .answer d lent a m;
       }
 
   record-part : part from (from + 12) s ≡ recordBytes s i

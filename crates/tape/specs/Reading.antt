@@ -8,10 +8,9 @@ use Rattle.rules.specs.declared.Loan.{Loan}
 use Rattle.state.specs.declared.Device.{Device}
 use Rattle.monitor.specs.declared.Stepped.{Stepped}
 use Rattle.history.specs.Tape.{isTape, lengthsFit, manifestPlace, actionsPlace}
-use Rattle.history.specs.Run.{Held, answerTo, heldAfter}
+use Rattle.history.specs.Run.{monitorSteps, Held, answerTo, heldAfter}
 use Rattle.tape.specs.declared.Start.{Start}
 use Rattle.tape.specs.declared.Start.the-variants.{At, NoTape}
-use Rattle.tape.specs.Stepping.{stepping}
 
 abbrev pub startOf : List ℕ → Start
 startOf s = cond (isTape s) (At (actionsPlace s)) NoTape
@@ -34,7 +33,7 @@ heldBy d lent = record { device = d; lent = lent }
 abbrev pub stepped : List ℕ → Device → List Loan → ℕ → Stepped
 stepped s d lent i =
     record {
-      device = heldAfter stepping s (heldBy d lent) i .device;
-      lent = heldAfter stepping s (heldBy d lent) i .lent;
-      answer = answerTo stepping s (heldBy d lent) i;
+      device = heldAfter monitorSteps s (heldBy d lent) i .device;
+      lent = heldAfter monitorSteps s (heldBy d lent) i .lent;
+      answer = answerTo monitorSteps s (heldBy d lent) i;
     }

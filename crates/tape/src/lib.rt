@@ -24,17 +24,24 @@ ghost use Rattle.manifest.specs.Layout.{u16At};
 ghost use Rattle.state.specs.Tables.{fresh};
 ghost use Rattle.state.specs.Stored.{zeroApp, zeroDefinition, zeroPart, zeroResource, zeroInstance, zeroLoan, deviceOf};
 ghost use Rattle.history.specs.Tape.{manifestCount, manifestPlace};
-ghost use Rattle.history.specs.Sheet.{decimal, field, answerText, lineText};
-ghost use Rattle.history.specs.Run.{countsText, runText};
-ghost use Rattle.tape.specs.Stepping.{stepping};
+ghost use Rattle.history.specs.Sheet.{decimal, field, refusedText, answerText, lineText, sheet};
+ghost use Rattle.history.specs.Run.{monitorSteps, countsText, runText};
 ghost use Rattle.tape.specs.Written.{Written};
-ghost use Rattle.tape.specs.Reading.{startOf, TapeAt, Passed, stepped};
-ghost use Rattle.tape.specs.Filled.{wroteOf, filled};
+ghost use Rattle.tape.specs.Reading.{startOf, TapeAt, Passed, heldBy, stepped};
+ghost use Rattle.tape.specs.Filled.{wrote, filled, sheetRoom};
+ghost use Rattle.tape.specs.Ran.{linesRoom, linesOf, ran, RanAt};
 
-/// How many bytes of the buffer the sheet takes, or that the buffer is too short for it.
+/// How many bytes of the buffer are written, or that the buffer is too short and nothing is.
 pub enum Wrote {
     Bytes(usize),
     TooShort,
+}
+
+/// What a run leaves, and what it wrote.
+pub struct Ran {
+    pub device: Device,
+    pub lent: [Loan; 128],
+    pub wrote: Wrote,
 }
 
 /// Where the count of a tape's actions stands, or that the bytes are no tape.
@@ -43,19 +50,21 @@ enum Start {
     NoTape,
 }
 
+// Device and loan table after some records, and where their lines end in the buffer.
+struct Lines {
+    device: Device,
+    lent: [Loan; 128],
+    end: usize,
+}
+
 /// The sheet of a tape, at the front of a lent buffer. What stands after it in the buffer stays as it was.
 pub fn sheet_of(tape: &[u8], out: &mut [u8]) -> Wrote
-    ensures { λ r. ⌜ r ≡ wroteOf (now (tape .entry)) (now (out .entry)) ⌝ }
-    ensures { λ r. ⌜ now (out .exit) ≡ filled (now (tape .entry)) (now (out .entry)) ⌝ }
+    ensures { λ r. ⌜ r ≡ wrote (sheetRoom (now (tape .entry))) (sheet (now (tape .entry))) (now (out .entry)) ⌝ }
+    ensures { λ r. ⌜ now (out .exit)
+        ≡ filled (sheetRoom (now (tape .entry))) (sheet (now (tape .entry))) (now (out .entry)) ⌝ }
 {
     match start_of(tape) {
-        Start::NoTape => {
-            if out.len() < 13 {
-                return Wrote::TooShort;
-            }
-            let end = put(out, 0, b"tape refused\n");
-            Wrote::Bytes(end)
-        }
+        Start::NoTape => put_refused(out),
         Start::At(p) => {
             let n = u16_at(tape, p);
             if out.len() < 24 * n + 98 {
@@ -65,6 +74,43 @@ pub fn sheet_of(tape: &[u8], out: &mut [u8]) -> Wrote
             let b = put_field(out, a, n, 10);
             let end = put_run(tape, p, n, out, b);
             Wrote::Bytes(end)
+        }
+    }
+}
+
+/// The records of a tape, one after the other at a device and its loan table: the line of each at the front of a lent
+/// buffer. Bytes that are no tape, and a buffer that is too short, leave device and table as they are.
+pub fn run(tape: &[u8], d: Device, lent: [Loan; 128], out: &mut [u8]) -> Ran
+    ensures { λ r. ⌜ r ≡ ran (now (tape .entry)) (heldBy d lent) (now (out .entry)) ⌝ }
+    ensures { λ r. ⌜ now (out .exit)
+        ≡ filled (linesRoom (now (tape .entry))) (linesOf (now (tape .entry)) (heldBy d lent)) (now (out .entry)) ⌝ }
+{
+    match start_of(tape) {
+        Start::NoTape => {
+            let wrote = put_refused(out);
+            Ran {
+                device: d,
+                lent,
+                wrote,
+            }
+        }
+        Start::At(p) => {
+            let n = u16_at(tape, p);
+            if out.len() < 24 * n {
+                return Ran {
+                    device: d,
+                    lent,
+                    wrote: Wrote::TooShort,
+                };
+            }
+            let lines = put_lines(tape, p, n, d, lent, out, 0);
+            let device = lines.device;
+            let left = lines.lent;
+            Ran {
+                device,
+                lent: left,
+                wrote: Wrote::Bytes(lines.end),
+            }
         }
     }
 }
@@ -169,15 +215,48 @@ fn step_at(tape: &[u8], p: usize, i: usize, d: Device, lent: [Loan; 128]) -> Ste
 
 // ---- writing the sheet
 
-// The lines of the n actions of a tape and the last line.
+// The one line for bytes that are no tape.
+fn put_refused(out: &mut [u8]) -> Wrote
+    ensures { λ r. ⌜ r ≡ wrote 13 refusedText (now (out .entry)) ⌝ }
+    ensures { λ r. ⌜ now (out .exit) ≡ filled 13 refusedText (now (out .entry)) ⌝ }
+{
+    if out.len() < 13 {
+        return Wrote::TooShort;
+    }
+    Wrote::Bytes(put(out, 0, b"tape refused\n"))
+}
+
+// The lines of the n actions of a tape at a fresh device, and the last line.
 fn put_run(tape: &[u8], p: usize, n: usize, out: &mut [u8], from: usize) -> usize
     requires { ⌜ TapeAt (now tape) p × ((p + 2 + 12 * n ≤ length (now tape)) × (n ≤ 2048)) ⌝ }
     requires { ⌜ from + 24 * n + 85 ≤ length (now out) ⌝ }
-    ensures { λ r. ⌜ Written (now (out .entry)) from (runText stepping (now (tape .entry)) n) (now (out .exit)) r ⌝ }
+    ensures { λ r. ⌜ Written (now (out .entry)) from (runText monitorSteps (now (tape .entry)) n) (now (out .exit)) r ⌝ }
     ensures { λ r. ⌜ r ≤ from + 24 * n + 85 ⌝ }
 {
-    let mut d = fresh_device();
-    let mut lent = zero_loans();
+    let lines = put_lines(tape, p, n, fresh_device(), zero_loans(), out, from);
+    let d = lines.device;
+    let running = d.instances.running;
+    put_counts(out, lines.end, d.apps.count, running_count(running), d.lent)
+}
+
+// The lines of the first n actions of a tape at a device and its loan table.
+fn put_lines(
+    tape: &[u8],
+    p: usize,
+    n: usize,
+    device: Device,
+    table: [Loan; 128],
+    out: &mut [u8],
+    from: usize,
+) -> Lines
+    requires { ⌜ TapeAt (now tape) p × ((p + 2 + 12 * n ≤ length (now tape)) × (n ≤ 2048)) ⌝ }
+    requires { ⌜ from + 24 * n ≤ length (now out) ⌝ }
+    ensures { λ r. ⌜ RanAt (now (tape .entry)) (heldBy device table) (now (out .entry)) from n
+        (heldBy (r .device) (r .lent)) (now (out .exit)) (r .end) ⌝ }
+    ensures { λ r. ⌜ r .end ≤ from + 24 * n ⌝ }
+{
+    let mut d = device;
+    let mut lent = table;
     let mut at = from;
     let mut i = 0;
     while i < n {
@@ -189,8 +268,11 @@ fn put_run(tape: &[u8], p: usize, n: usize, out: &mut [u8], from: usize) -> usiz
         d = next.device;
         lent = next.lent;
     }
-    let running = d.instances.running;
-    put_counts(out, at, d.apps.count, running_count(running), d.lent)
+    Lines {
+        device: d,
+        lent,
+        end: at,
+    }
 }
 
 // The ones of the running numbers.

@@ -16,19 +16,33 @@ sections c = read-good _ _ (c .pre)
 
 returns : tie.Need-returns
 unfolding admit
-returns c = refuses _ _ _ (c .before .clashes .ensures ∙ ap (clash (viewIn (c .before .before .before .args .d) [])) (sym (sections (c .before .before .before) .whole))) (c .if1 .taken)
+returns c =
+    refuses _ _ _ (c .before .clashes .ensures ∙ ap (clash (viewIn (c .before .before .before .args .d) []))
+    (sym (sections (c .before .before .before) .whole))) (c .if1 .taken)
 
 returns-2 : tie.Need-returns-2
 unfolding admit viewOf modelOf
 returns-2 c =
-    passes _ _ _ (c .before .before .before .clashes .ensures ∙ ap (clash (viewIn (c .before .before .before .before .before .args .d) [])) (sym (sections (c .before .before .before .before .before) .whole))) (c .before .before .if1 .left)
-    (refuses _ _ _ (c .before .is-crowded .ensures ∙ sym (crowded-is (sections (c .before .before .before .before .before)) (viewIn (c .before .before .before .before .before .args .d) [])) ∙ ap (crowded large (viewIn (c .before .before .before .before .before .args .d) [])) (sym (sections (c .before .before .before .before .before) .whole))) (c .if2 .taken))
+    passes _ _ _ (c .before .before .before .clashes .ensures ∙ ap
+    (clash (viewIn (c .before .before .before .before .before .args .d) []))
+    (sym (sections (c .before .before .before .before .before) .whole))) (c .before .before .if1 .left)
+    (refuses _ _ _ (c .before .is-crowded .ensures ∙ sym
+    (crowded-is (sections (c .before .before .before .before .before))
+    (viewIn (c .before .before .before .before .before .args .d) [])) ∙ ap
+    (crowded large (viewIn (c .before .before .before .before .before .args .d) []))
+    (sym (sections (c .before .before .before .before .before) .whole))) (c .if2 .taken))
 
 returns-3 : tie.Need-returns-3
 unfolding admit viewOf modelOf
 returns-3 c =
-    passes _ _ _ (c .before .before .before .clashes .ensures ∙ ap (clash (viewIn (c .before .before .before .before .before .args .d) [])) (sym (sections (c .before .before .before .before .before) .whole))) (c .before .before .if1 .left)
-    (passes _ _ _ (c .before .is-crowded .ensures ∙ sym (crowded-is (sections (c .before .before .before .before .before)) (viewIn (c .before .before .before .before .before .args .d) [])) ∙ ap (crowded large (viewIn (c .before .before .before .before .before .args .d) [])) (sym (sections (c .before .before .before .before .before) .whole))) (c .if2 .left)
+    passes _ _ _ (c .before .before .before .clashes .ensures ∙ ap
+    (clash (viewIn (c .before .before .before .before .before .args .d) []))
+    (sym (sections (c .before .before .before .before .before) .whole))) (c .before .before .if1 .left)
+    (passes _ _ _ (c .before .is-crowded .ensures ∙ sym
+    (crowded-is (sections (c .before .before .before .before .before))
+    (viewIn (c .before .before .before .before .before .args .d) [])) ∙ ap
+    (crowded large (viewIn (c .before .before .before .before .before .args .d) []))
+    (sym (sections (c .before .before .before .before .before) .whole))) (c .if2 .left)
     (ends refl))
 
 pub admit-spec : {M : Type 1} → statement M

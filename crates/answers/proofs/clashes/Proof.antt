@@ -20,15 +20,38 @@ permissions-taken-requires c κs = defines-fit (sections (c .before .before .bef
 
 returns : tie.Need-returns
 unfolding viewOf modelOf
-returns c = sym (clash-is (sections (c .before .before .before)) (viewIn (c .before .before .before .args .d) []) ∙ rw (sym (c .before .has-app .ensures ∙ app-here (appsIn (c .before .before .before .args .d .apps)) (c .before .before .before .args .m .app)) ∙ c .if1 .taken))
+returns c =
+    sym (clash-is (sections (c .before .before .before)) (viewIn (c .before .before .before .args .d) []) ∙ rw
+    (sym (c .before .has-app .ensures ∙ app-here (appsIn (c .before .before .before .args .d .apps))
+    (c .before .before .before .args .m .app)) ∙ c .if1 .taken))
 
 returns-2 : tie.Need-returns-2
 unfolding viewOf modelOf
-returns-2 c = sym (clash-is (sections (c .before .before .before .before .before .before)) (viewIn (c .before .before .before .before .before .before .args .d) []) ∙ rw (sym (c .before .before .before .before .has-app .ensures ∙ app-here (appsIn (c .before .before .before .before .before .before .args .d .apps)) (c .before .before .before .before .before .before .args .m .app)) ∙ c .before .before .before .if1 .left, sym (c .before .components-taken .ensures) ∙ c .if2 .taken))
+returns-2 c =
+    sym (clash-is (sections (c .before .before .before .before .before .before))
+    (viewIn (c .before .before .before .before .before .before .args .d) []) ∙ rw (
+      sym (c .before .before .before .before .has-app .ensures ∙ app-here
+          (appsIn (c .before .before .before .before .before .before .args .d .apps))
+          (c .before .before .before .before .before .before .args .m .app)) ∙ c .before .before .before .if1 .left,
+      sym
+          (c .before .components-taken .ensures) ∙ c .if2 .taken,
+    ))
 
 returns-3 : tie.Need-returns-3
 unfolding known viewBy viewOf modelOf
-returns-3 c = c .permissions-taken .ensures ∙ sym (clash-is (sections (c .before .before .before .before .before .before .before .before)) (viewIn (c .before .before .before .before .before .before .before .before .args .d) []) ∙ rw (sym (c .before .before .before .before .before .before .has-app .ensures ∙ app-here (appsIn (c .before .before .before .before .before .before .before .before .args .d .apps)) (c .before .before .before .before .before .before .before .before .args .m .app)) ∙ c .before .before .before .before .before .if1 .left, sym (c .before .before .before .components-taken .ensures) ∙ c .before .before .if2 .left))
+returns-3 c =
+    c .permissions-taken .ensures ∙ sym
+    (clash-is (sections (c .before .before .before .before .before .before .before .before))
+    (viewIn (c .before .before .before .before .before .before .before .before .args .d) []) ∙ rw (
+      sym (c .before .before .before .before .before .before .has-app .ensures ∙ app-here
+          (appsIn (c .before .before .before .before .before .before .before .before .args .d .apps))
+          (c .before .before .before .before .before .before .before .before .args .m .app))
+          ∙ c .before .before .before .before .before .if1 .left,
+      sym (c .before .before .before .components-taken .ensures)
+          ∙ c .before .before .if2 .left,
+    ))
 
 pub clashes-spec : {M : Type 1} → statement M
-clashes-spec = tie.close (tie.spec (λ c κs. search needs) returns components-taken-requires returns-2 permissions-taken-requires returns-3)
+clashes-spec =
+    tie.close (tie.spec (λ c κs. search needs) returns components-taken-requires returns-2 permissions-taken-requires
+    returns-3)

@@ -1,5 +1,6 @@
 -- `find_wide_instance` meets its contract: at each turn the whole answer is the answer for the instances that are left.
-use Rattle.answers.proofs.Kit.{_-_, sym, _∙_, arith, needs, eq-eqb, ne-eqb, instances-long, bound, instancesIn, placeOf, isInstance}
+use Rattle.answers.proofs.Kit.{_-_, sym, _∙_, arith, needs, eq-eqb, ne-eqb, instances-long, bound, instancesIn}
+use Rattle.answers.proofs.Kit.{placeOf, isInstance}
 use Rattle.answers.proofs.Kit.{Placed, placed-begin, placed-next, placed-hits, placed-ends}
 use Rattle.answers.proofs.find_wide_instance.Statement.{statement}
 use Rattle.answers.proofs.find_wide_instance.Tie as tie
@@ -14,13 +15,21 @@ loop-holds : tie.Need-loop-holds Inv-loop μ-loop
 loop-holds c = placed-begin (bound _ (instances-long (c .before .args .t1) (c .before .good .0)) (c .within .ensures))
 
 returns : tie.Need-returns Inv-loop μ-loop
-returns c = placed-hits (c .before .before .before .before .before .loop .inv) (c .before .before .before .before .loop-test .taken) _ (eq-eqb _ _ (sym (c .before .wider .ensures ∙ c .before .before .wide .ensures) ∙ c .if1 .taken))
+returns c =
+    placed-hits (c .before .before .before .before .before .loop .inv)
+    (c .before .before .before .before .loop-test .taken) _
+    (eq-eqb _ _ (sym (c .before .wider .ensures ∙ c .before .before .wide .ensures) ∙ c .if1 .taken))
 
 loop-again : tie.Need-loop-again Inv-loop μ-loop
-loop-again c = placed-next (c .before .before .before .before .before .loop .inv) (c .before .before .before .before .loop-test .taken) _ (ne-eqb _ _ (λ e. c .if1 .left (c .before .wider .ensures ∙ c .before .before .wide .ensures ∙ e)))
+loop-again c =
+    placed-next (c .before .before .before .before .before .loop .inv)
+    (c .before .before .before .before .loop-test .taken) _
+    (ne-eqb _ _ (λ e. c .if1 .left (c .before .wider .ensures ∙ c .before .before .wide .ensures ∙ e)))
 
 returns-2 : tie.Need-returns-2 Inv-loop μ-loop
 returns-2 c = placed-ends (c .before .loop .inv) (c .loop-test .left)
 
 pub find-wide-instance-spec : {M : Type 1} → statement M
-find-wide-instance-spec = tie.close (tie.spec Inv-loop μ-loop (λ c κs. search needs) loop-holds (λ c. omega arith) (λ c. omega arith) (λ c κs. search needs) (λ c κs. search needs) returns (λ c. omega arith) (λ c. omega arith) loop-again returns-2)
+find-wide-instance-spec =
+    tie.close (tie.spec Inv-loop μ-loop (λ c κs. search needs) loop-holds (λ c. omega arith) (λ c. omega arith)
+    (λ c κs. search needs) (λ c κs. search needs) returns (λ c. omega arith) (λ c. omega arith) loop-again returns-2)

@@ -10,19 +10,39 @@ use Rattle.answers.proofs.ground_of.Tie as tie
 
 returns : tie.Need-returns
 unfolding rightGround allows holds hold known viewBy viewOf modelOf
-returns c = ground-right _ _ _ _ _ _ (c .before .before .ground-right .ensures) (c .before .is-ground .ensures) (c .if1 .taken)
+returns c =
+    ground-right _ _ _ _ _ _ (c .before .before .ground-right .ensures) (c .before .is-ground .ensures) (c .if1 .taken)
 
 returns-2 : tie.Need-returns-2
 unfolding rightGround allows holds hold known viewBy viewOf modelOf
-returns-2 c = ground-instance _ _ _ _ _ _ (c .before .before .before .before .before .before .ground-right .ensures) (c .before .before .before .before .before .is-ground .ensures) (c .before .before .before .before .if1 .left) (c .before .before .wider .ensures) (c .before .is-lent .ensures) (c .if2 .taken)
+returns-2 c =
+    ground-instance _ _ _ _ _ _ (c .before .before .before .before .before .before .ground-right .ensures)
+    (c .before .before .before .before .before .is-ground .ensures) (c .before .before .before .before .if1 .left)
+    (c .before .before .wider .ensures) (c .before .is-lent .ensures) (c .if2 .taken)
 
 returns-3 : tie.Need-returns-3
 unfolding rightGround allows holds hold known viewBy viewOf modelOf
-returns-3 c = ground-app _ _ _ _ _ _ (c .before .before .before .before .before .before .before .before .before .ground-right .ensures) (c .before .before .before .before .before .before .before .before .is-ground .ensures) (c .before .before .before .before .before .before .before .if1 .left) (c .before .before .before .before .before .wider .ensures) (c .before .before .before .before .is-lent .ensures) (c .before .before .before .if2 .left) (c .before .before .wider2 .ensures) (c .before .is-lent2 .ensures) (c .if3 .taken)
+returns-3 c =
+    ground-app _ _ _ _ _ _
+    (c .before .before .before .before .before .before .before .before .before .ground-right .ensures)
+    (c .before .before .before .before .before .before .before .before .is-ground .ensures)
+    (c .before .before .before .before .before .before .before .if1 .left)
+    (c .before .before .before .before .before .wider .ensures) (c .before .before .before .before .is-lent .ensures)
+    (c .before .before .before .if2 .left) (c .before .before .wider2 .ensures) (c .before .is-lent2 .ensures)
+    (c .if3 .taken)
 
 returns-4 : tie.Need-returns-4
 unfolding rightGround allows holds hold known viewBy viewOf modelOf
-returns-4 c = ground-none _ _ _ _ _ _ (c .before .before .before .before .before .before .before .before .before .ground-right .ensures) (c .before .before .before .before .before .before .before .before .is-ground .ensures) (c .before .before .before .before .before .before .before .if1 .left) (c .before .before .before .before .before .wider .ensures) (c .before .before .before .before .is-lent .ensures) (c .before .before .before .if2 .left) (c .before .before .wider2 .ensures) (c .before .is-lent2 .ensures) (c .if3 .left)
+returns-4 c =
+    ground-none _ _ _ _ _ _
+    (c .before .before .before .before .before .before .before .before .before .ground-right .ensures)
+    (c .before .before .before .before .before .before .before .before .is-ground .ensures)
+    (c .before .before .before .before .before .before .before .if1 .left)
+    (c .before .before .before .before .before .wider .ensures) (c .before .before .before .before .is-lent .ensures)
+    (c .before .before .before .if2 .left) (c .before .before .wider2 .ensures) (c .before .is-lent2 .ensures)
+    (c .if3 .left)
 
 pub ground-of-spec : {M : Type 1} → statement M
-ground-of-spec = tie.close (tie.spec (λ c κs. search needs) (λ c κs. search needs) returns (λ c κs. search needs) (λ c κs. search needs) returns-2 (λ c κs. search needs) (λ c κs. search needs) returns-3 returns-4)
+ground-of-spec =
+    tie.close (tie.spec (λ c κs. search needs) (λ c κs. search needs) returns (λ c κs. search needs)
+    (λ c κs. search needs) returns-2 (λ c κs. search needs) (λ c κs. search needs) returns-3 returns-4)

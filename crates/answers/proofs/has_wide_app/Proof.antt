@@ -14,13 +14,19 @@ loop-holds : tie.Need-loop-holds Inv-loop μ-loop
 loop-holds c = some-begin (bound _ (apps-long (c .before .args .t1) (c .before .good .0)) (c .within .ensures))
 
 returns : tie.Need-returns Inv-loop μ-loop
-returns c = some-hits (c .before .before .before .before .loop .inv) (c .before .before .before .loop-test .taken) _ (eq-eqb _ _ (sym (c .before .wider .ensures) ∙ c .if1 .taken))
+returns c =
+    some-hits (c .before .before .before .before .loop .inv) (c .before .before .before .loop-test .taken) _
+    (eq-eqb _ _ (sym (c .before .wider .ensures) ∙ c .if1 .taken))
 
 loop-again : tie.Need-loop-again Inv-loop μ-loop
-loop-again c = some-next (c .before .before .before .before .loop .inv) (c .before .before .before .loop-test .taken) _ (ne-eqb _ _ (λ e. c .if1 .left (c .before .wider .ensures ∙ e)))
+loop-again c =
+    some-next (c .before .before .before .before .loop .inv) (c .before .before .before .loop-test .taken) _
+    (ne-eqb _ _ (λ e. c .if1 .left (c .before .wider .ensures ∙ e)))
 
 returns-2 : tie.Need-returns-2 Inv-loop μ-loop
 returns-2 c = some-ends (c .before .loop .inv) (c .loop-test .left)
 
 pub has-wide-app-spec : {M : Type 1} → statement M
-has-wide-app-spec = tie.close (tie.spec Inv-loop μ-loop (λ c κs. search needs) loop-holds (λ c. omega arith) (λ c. omega arith) (λ c κs. search needs) returns (λ c. omega arith) (λ c. omega arith) loop-again returns-2)
+has-wide-app-spec =
+    tie.close (tie.spec Inv-loop μ-loop (λ c κs. search needs) loop-holds (λ c. omega arith) (λ c. omega arith)
+    (λ c κs. search needs) returns (λ c. omega arith) (λ c. omega arith) loop-again returns-2)

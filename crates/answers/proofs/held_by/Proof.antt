@@ -1,13 +1,16 @@
 -- `held_by` meets its contract: the app at the place that is found is the first of that number.
-use Rattle.answers.proofs.Kit.{_<_, sym, _∙_, arith, needs, test, isApp, Found, found, not-found, blankApp, app-found, app-missing, apps-long}
+use Rattle.answers.proofs.Kit.{_<_, sym, _∙_, arith, needs, test, isApp, Found, found, not-found, blankApp}
+use Rattle.answers.proofs.Kit.{app-found, app-missing, apps-long}
 use Rattle.answers.proofs.held_by.Statement.{statement}
 use Rattle.answers.proofs.held_by.Tie as tie
 
-there : (c : tie.After-place) → Found (isApp (c .before .before .before .args .app)) blankApp (c .before .before .before .args .t1 .entries) (c .before .before .before .args .t1 .count) (c .place .given .0 .0)
+there : (c : tie.After-place) → Found (isApp (c .before .before .before .args .app)) blankApp
+    (c .before .before .before .args .t1 .entries) (c .before .before .before .args .t1 .count) (c .place .given .0 .0)
 there c = found _ blankApp _ _ _ (sym (c .before .before .find-app .ensures) ∙ c .place .given .1)
 
 below : (c : tie.After-place) → c .place .given .0 .0 < 16
-below c = omega (arith, there c .below, apps-long (c .before .before .before .args .t1) (c .before .before .before .good .0))
+below c =
+    omega (arith, there c .below, apps-long (c .before .before .before .args .t1) (c .before .before .before .good .0))
 
 mul-a : tie.Need-mul-a
 mul-a c = omega (arith, below (c .before))
@@ -24,4 +27,6 @@ unfolding test
 returns-2 c = c .holds .ensures ∙ rw (app-found _ _ _ (there (c .before .before .before) .same))
 
 pub held-by-spec : {M : Type 1} → statement M
-held-by-spec = tie.close (tie.spec (λ c κs. search needs) (λ c. search needs) (λ c. search needs) mul-a element-copy-out-a (λ c κs. search needs) returns returns-2)
+held-by-spec =
+    tie.close (tie.spec (λ c κs. search needs) (λ c. search needs) (λ c. search needs) mul-a element-copy-out-a
+    (λ c κs. search needs) returns returns-2)

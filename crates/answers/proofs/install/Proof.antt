@@ -16,7 +16,11 @@ returns c = refuses _ _ _ refl (malformed _ (sym (c .before .before .check .ensu
 
 returns-2 : tie.Need-returns-2
 unfolding answer refusals groundFor valueFor admit
-returns-2 c = passes _ _ _ refl (read-good _ _ (sym (c .before .before .before .before .check .ensures) ∙ c .before .before .verdict .given .1) .fine) (c .admit .ensures)
+returns-2 c =
+    passes _ _ _ refl (read-good _ _
+    (sym (c .before .before .before .before .check .ensures) ∙ c .before .before .verdict .given .1) .fine)
+    (c .admit .ensures)
 
 pub install-spec : {M : Type 1} → statement M
-install-spec = tie.close (tie.spec (λ c κs. search needs) (λ c. search needs) (λ c. search needs) admit-requires returns returns-2)
+install-spec =
+    tie.close (tie.spec (λ c κs. search needs) (λ c. search needs) (λ c. search needs) admit-requires returns returns-2)

@@ -25,4 +25,6 @@ unfolding isGround
 returns-5 c = rw (c .enum-told5 .given .1)
 
 pub is-ground-spec : {M : Type 1} → statement M
-is-ground-spec = tie.close (tie.spec (λ c. search needs) (λ c. search needs) (λ c. search needs) (λ c. search needs) (λ c. search needs) returns returns-2 returns-3 returns-4 returns-5)
+is-ground-spec =
+    tie.close (tie.spec (λ c. search needs) (λ c. search needs) (λ c. search needs) (λ c. search needs)
+    (λ c. search needs) returns returns-2 returns-3 returns-4 returns-5)

@@ -1,5 +1,6 @@
 -- `is_lent` meets its contract: at each turn the whole answer is the answer for the loans that are left.
-use Rattle.answers.proofs.Kit.{_-_, _&&_, refl, sym, _∙_, arith, needs, take, opOf, bound, Some, some-as, some-next, some-hits, some-ends}
+use Rattle.answers.proofs.Kit.{_-_, _&&_, refl, sym, _∙_, arith, needs, take, opOf, bound, Some, some-as}
+use Rattle.answers.proofs.Kit.{some-next, some-hits, some-ends}
 use Rattle.rules.specs.Action.{carries}
 use Rattle.state.specs.Tables.{isLoan, lentIn}
 use Rattle.answers.specs.Answering.{receiverOf}
@@ -20,13 +21,21 @@ unfolding lentIn
 loop-holds c = some-as refl (bound _ (c .before .good .0 .1 .0 .1) (c .within .ensures))
 
 returns : tie.Need-returns Inv-loop μ-loop
-returns c = some-hits (c .before .before .before .before .before .loop .inv) (c .before .before .before .before .loop-test .taken) _ (sym (and-both (c .before .before .is-loan .ensures) (c .before .has-operation .ensures)) ∙ c .if1 .taken)
+returns c =
+    some-hits (c .before .before .before .before .before .loop .inv)
+    (c .before .before .before .before .loop-test .taken) _
+    (sym (and-both (c .before .before .is-loan .ensures) (c .before .has-operation .ensures)) ∙ c .if1 .taken)
 
 loop-again : tie.Need-loop-again Inv-loop μ-loop
-loop-again c = some-next (c .before .before .before .before .before .loop .inv) (c .before .before .before .before .loop-test .taken) _ (sym (and-both (c .before .before .is-loan .ensures) (c .before .has-operation .ensures)) ∙ c .if1 .left)
+loop-again c =
+    some-next (c .before .before .before .before .before .loop .inv)
+    (c .before .before .before .before .loop-test .taken) _
+    (sym (and-both (c .before .before .is-loan .ensures) (c .before .has-operation .ensures)) ∙ c .if1 .left)
 
 returns-2 : tie.Need-returns-2 Inv-loop μ-loop
 returns-2 c = some-ends (c .before .loop .inv) (c .loop-test .left)
 
 pub is-lent-spec : {M : Type 1} → statement M
-is-lent-spec = tie.close (tie.spec Inv-loop μ-loop (λ c κs. search needs) loop-holds (λ c. omega arith) (λ c. omega arith) (λ c κs. search needs) (λ c κs. search needs) returns (λ c. omega arith) (λ c. omega arith) loop-again returns-2)
+is-lent-spec =
+    tie.close (tie.spec Inv-loop μ-loop (λ c κs. search needs) loop-holds (λ c. omega arith) (λ c. omega arith)
+    (λ c κs. search needs) (λ c κs. search needs) returns (λ c. omega arith) (λ c. omega arith) loop-again returns-2)

@@ -14,4 +14,6 @@ unfolding isLoan isTo isOn receiverKind receiverNumber
 returns-2 c = rw (c .before .before .before .before .before .receiver2 .given .1, c .before .before .wider2 .ensures)
 
 pub is-loan-spec : {M : Type 1} → statement M
-is-loan-spec = tie.close (tie.spec (λ c. search needs) (λ c κs. search needs) (λ c. search needs) (λ c κs. search needs) returns returns-2)
+is-loan-spec =
+    tie.close (tie.spec (λ c. search needs) (λ c κs. search needs) (λ c. search needs) (λ c κs. search needs) returns
+    returns-2)

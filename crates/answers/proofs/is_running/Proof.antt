@@ -21,13 +21,19 @@ unfolding isRunning
 loop-holds c = refl
 
 returns : tie.Need-returns Inv-loop μ-loop
-returns c = sym (c .before .before .before .loop .inv ∙ any-upto _ _ (c .before .before .loop-test .taken) ∙ rw (sym (c .before .runs-for .ensures) ∙ c .if1 .taken))
+returns c =
+    sym (c .before .before .before .loop .inv ∙ any-upto _ _ (c .before .before .loop-test .taken) ∙ rw
+    (sym (c .before .runs-for .ensures) ∙ c .if1 .taken))
 
 loop-again : tie.Need-loop-again Inv-loop μ-loop
-loop-again c = c .before .before .before .loop .inv ∙ any-upto _ _ (c .before .before .loop-test .taken) ∙ rw (sym (c .before .runs-for .ensures) ∙ c .if1 .left)
+loop-again c =
+    c .before .before .before .loop .inv ∙ any-upto _ _ (c .before .before .loop-test .taken) ∙ rw
+    (sym (c .before .runs-for .ensures) ∙ c .if1 .left)
 
 returns-2 : tie.Need-returns-2 Inv-loop μ-loop
 returns-2 c = sym (c .before .loop .inv ∙ none-left _ _ (c .loop-test .left))
 
 pub is-running-spec : {M : Type 1} → statement M
-is-running-spec = tie.close (tie.spec Inv-loop μ-loop loop-holds (λ c κs. search needs) returns (λ c. omega arith) (λ c. omega arith) loop-again returns-2)
+is-running-spec =
+    tie.close (tie.spec Inv-loop μ-loop loop-holds (λ c κs. search needs) returns (λ c. omega arith) (λ c. omega arith)
+    loop-again returns-2)

@@ -9,11 +9,17 @@ use Rattle.answers.proofs.may_not_start.Tie as tie
 
 returns : tie.Need-returns
 unfolding startable viewBy viewOf modelOf
-returns c = c .barred .ensures ∙ test-some _ _ (installed-found _ _ (sym (c .before .before .before .before .find-startable .ensures) ∙ c .before .before .part .given .1))
+returns c =
+    c .barred .ensures ∙ test-some _ _
+    (installed-found _ _
+    (sym (c .before .before .before .before .find-startable .ensures) ∙ c .before .before .part .given .1))
 
 returns-2 : tie.Need-returns-2
 unfolding startable viewBy viewOf modelOf
-returns-2 c = test-none _ _ (installed-none _ (sym (c .before .before .find-startable .ensures) ∙ c .enum-told .given .1))
+returns-2 c =
+    test-none _ _ (installed-none _ (sym (c .before .before .find-startable .ensures) ∙ c .enum-told .given .1))
 
 pub may-not-start-spec : {M : Type 1} → statement M
-may-not-start-spec = tie.close (tie.spec (λ c κs. search needs) (λ c. search needs) (λ c κs. search needs) (λ c. search needs) returns returns-2)
+may-not-start-spec =
+    tie.close (tie.spec (λ c κs. search needs) (λ c. search needs) (λ c κs. search needs) (λ c. search needs) returns
+    returns-2)

@@ -13,4 +13,5 @@ unfolding noReceivingInstance
 returns-2 c = rw (c .enum-told .given .1)
 
 pub no-receiving-instance-spec : {M : Type 1} → statement M
-no-receiving-instance-spec = tie.close (tie.spec (λ c. search needs) (λ c κs. search needs) (λ c. search needs) returns returns-2)
+no-receiving-instance-spec =
+    tie.close (tie.spec (λ c. search needs) (λ c κs. search needs) (λ c. search needs) returns returns-2)

@@ -1,6 +1,7 @@
 -- `not_grantable` meets its contract: the app at the place that is found is the first of that number, and the look
 -- tells the definition in force.
-use Rattle.answers.proofs.Kit.{_<_, sym, _∙_, arith, needs, test, isApp, Found, found, not-found, blankApp, app-found, app-missing, apps-long}
+use Rattle.answers.proofs.Kit.{_<_, sym, _∙_, arith, needs, test, isApp, Found, found, not-found, blankApp}
+use Rattle.answers.proofs.Kit.{app-found, app-missing, apps-long}
 use Rattle.answers.proofs.Kit.{[], Option, rowsIn, definitionsIn, viewBy, look-found, look-none}
 use Rattle.rules.specs.declared.Known.{Known}
 use Rattle.rules.specs.Permissions.{known}
@@ -11,11 +12,13 @@ use Rattle.answers.proofs.not_grantable.Tie as tie
 abbrev asked : tie.Start → Option Known
 asked c = known (viewBy (rowsIn (c .args .t1)) (definitionsIn (c .args .definitions)) [] []) (c .args .permission)
 
-there : (c : tie.After-place) → Found (isApp (c .before .before .before .args .app)) blankApp (c .before .before .before .args .t1 .entries) (c .before .before .before .args .t1 .count) (c .place .given .0 .0)
+there : (c : tie.After-place) → Found (isApp (c .before .before .before .args .app)) blankApp
+    (c .before .before .before .args .t1 .entries) (c .before .before .before .args .t1 .count) (c .place .given .0 .0)
 there c = found _ blankApp _ _ _ (sym (c .before .before .find-app .ensures) ∙ c .place .given .1)
 
 below : (c : tie.After-place) → c .place .given .0 .0 < 16
-below c = omega (arith, there c .below, apps-long (c .before .before .before .args .t1) (c .before .before .before .good .0))
+below c =
+    omega (arith, there c .below, apps-long (c .before .before .before .args .t1) (c .before .before .before .good .0))
 
 mul-a : tie.Need-mul-a
 mul-a c = omega (arith, below (c .before))
@@ -29,11 +32,26 @@ returns c = rw (app-missing _ _ (not-found _ _ (sym (c .before .before .find-app
 
 returns-2 : tie.Need-returns-2
 unfolding test
-returns-2 c = rw (app-found _ _ _ (there (c .before .before .before .before .before) .same), look-none (asked (c .before .before .before .before .before .before .before .before)) (sym (c .before .before .known-of .ensures) ∙ c .enum-told2 .given .1))
+returns-2 c =
+    rw (
+      app-found _ _ _ (there (c .before .before .before .before .before) .same),
+      look-none
+          (asked (c .before .before .before .before .before .before .before .before))
+          (sym (c .before .before .known-of .ensures) ∙ c .enum-told2 .given .1),
+    )
 
 returns-3 : tie.Need-returns-3
 unfolding test
-returns-3 c = rw (app-found _ _ _ (there (c .before .before .before .before .before .before .before) .same), look-found (asked (c .before .before .before .before .before .before .before .before .before .before)) _ (sym (c .before .before .before .before .known-of .ensures) ∙ c .before .before .look .given .1), c .grantable .ensures)
+returns-3 c =
+    rw (
+      app-found _ _ _ (there (c .before .before .before .before .before .before .before) .same),
+      look-found
+          (asked (c .before .before .before .before .before .before .before .before .before .before)) _
+          (sym (c .before .before .before .before .known-of .ensures) ∙ c .before .before .look .given .1),
+      c .grantable .ensures,
+    )
 
 pub not-grantable-spec : {M : Type 1} → statement M
-not-grantable-spec = tie.close (tie.spec (λ c κs. search needs) (λ c. search needs) (λ c. search needs) mul-a element-copy-out-a (λ c κs. search needs) (λ c. search needs) (λ c. search needs) (λ c κs. search needs) returns returns-2 returns-3)
+not-grantable-spec =
+    tie.close (tie.spec (λ c κs. search needs) (λ c. search needs) (λ c. search needs) mul-a element-copy-out-a
+    (λ c κs. search needs) (λ c. search needs) (λ c. search needs) (λ c κs. search needs) returns returns-2 returns-3)

@@ -10,11 +10,19 @@ use Rattle.answers.proofs.not_running.Tie as tie
 
 returns : tie.Need-returns
 unfolding runningApp viewBy viewOf runningPlace
-returns c = sym (there (running-at (c .before .before .before .args .apps .entries) (c .before .before .before .args .apps .count) _ (partsIn (c .before .before .before .args .parts)) (runIn (instancesIn (c .before .before .before .args .instances)) (c .before .before .before .args .number)) (sym (c .before .before .running-app .ensures) ∙ c .enum-told .given .1) .same))
+returns c =
+    sym (there (running-at (c .before .before .before .args .apps .entries)
+    (c .before .before .before .args .apps .count) _ (partsIn (c .before .before .before .args .parts))
+    (runIn (instancesIn (c .before .before .before .args .instances)) (c .before .before .before .args .number))
+    (sym (c .before .before .running-app .ensures) ∙ c .enum-told .given .1) .same))
 
 returns-2 : tie.Need-returns-2
 unfolding runningApp viewBy viewOf runningPlace
-returns-2 c = sym (gone (running-none (appsIn (c .before .before .before .args .apps)) (partsIn (c .before .before .before .args .parts)) (runIn (instancesIn (c .before .before .before .args .instances)) (c .before .before .before .args .number)) (sym (c .before .before .running-app .ensures) ∙ c .enum-told2 .given .1)))
+returns-2 c =
+    sym (gone (running-none (appsIn (c .before .before .before .args .apps))
+    (partsIn (c .before .before .before .args .parts))
+    (runIn (instancesIn (c .before .before .before .args .instances)) (c .before .before .before .args .number))
+    (sym (c .before .before .running-app .ensures) ∙ c .enum-told2 .given .1)))
 
 pub not-running-spec : {M : Type 1} → statement M
 not-running-spec = tie.close (tie.spec (λ c κs. search needs) (λ c. search needs) (λ c. search needs) returns returns-2)

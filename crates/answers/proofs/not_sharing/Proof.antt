@@ -6,7 +6,9 @@ use Rattle.answers.proofs.not_sharing.Tie as tie
 
 returns : tie.Need-returns
 unfolding test
-returns c = rw (installed-found _ _ (sym (c .before .before .before .before .find-provider .ensures) ∙ c .before .before .part .given .1))
+returns c =
+    rw (installed-found _ _
+    (sym (c .before .before .before .before .find-provider .ensures) ∙ c .before .before .part .given .1))
 
 returns-2 : tie.Need-returns-2
 unfolding test

@@ -1,15 +1,18 @@
 -- `owned_by` meets its contract: the component at the place that is found is the first of its number.
-use Rattle.answers.proofs.Kit.{_<_, sym, _∙_, arith, needs, isPart, Found, found, not-found, parts-long, test, viewBy}
+use Rattle.answers.proofs.Kit.{_<_, sym, _∙_, arith, needs, isPart, Found, found, not-found, parts-long, test}
+use Rattle.answers.proofs.Kit.{viewBy}
 use Rattle.state.specs.Stored.{zeroPart}
 use Rattle.state.specs.Tables.{partAt, viewOf}
 use Rattle.answers.proofs.owned_by.Statement.{statement}
 use Rattle.answers.proofs.owned_by.Tie as tie
 
-there : (c : tie.After-place) → Found (isPart (c .before .before .before .args .component)) zeroPart (c .before .before .before .args .t1 .entries) (c .before .before .before .args .t1 .count) (c .place .given .0 .0)
+there : (c : tie.After-place) → Found (isPart (c .before .before .before .args .component)) zeroPart
+    (c .before .before .before .args .t1 .entries) (c .before .before .before .args .t1 .count) (c .place .given .0 .0)
 there c = found _ zeroPart _ _ _ (sym (c .before .before .find-part .ensures) ∙ c .place .given .1)
 
 below : (c : tie.After-place) → c .place .given .0 .0 < 64
-below c = omega (arith, there c .below, parts-long (c .before .before .before .args .t1) (c .before .before .before .good .0))
+below c =
+    omega (arith, there c .below, parts-long (c .before .before .before .args .t1) (c .before .before .before .good .0))
 
 mul-k : tie.Need-mul-k
 mul-k c = omega (arith, below (c .before))
@@ -26,4 +29,6 @@ unfolding test viewBy viewOf partAt
 returns-2 c = rw (there (c .before .before .before) .same)
 
 pub owned-by-spec : {M : Type 1} → statement M
-owned-by-spec = tie.close (tie.spec (λ c κs. search needs) (λ c. search needs) (λ c. search needs) mul-k element-copy-out-k returns returns-2)
+owned-by-spec =
+    tie.close (tie.spec (λ c κs. search needs) (λ c. search needs) (λ c. search needs) mul-k element-copy-out-k returns
+    returns-2)

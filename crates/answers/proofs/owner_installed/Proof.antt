@@ -1,16 +1,24 @@
 -- `owner_installed` meets its contract: the component at the place that is found is the first of its number.
-use Rattle.answers.proofs.Kit.{_<_, sym, _∙_, arith, needs, isPart, Found, found, not-found, parts-long, getD, isSome, bind, viewBy, appsIn, app-here}
+use Rattle.answers.proofs.Kit.{_<_, sym, _∙_, arith, needs, isPart, Found, found, not-found, parts-long, getD}
+use Rattle.answers.proofs.Kit.{isSome, bind, viewBy, appsIn, app-here}
 use Rattle.state.specs.Stored.{zeroPart}
 use Rattle.state.specs.Tables.{partAt, viewOf}
 use Rattle.answers.specs.Answering.{ownerIn}
 use Rattle.answers.proofs.owner_installed.Statement.{statement}
 use Rattle.answers.proofs.owner_installed.Tie as tie
 
-there : (c : tie.After-place) → Found (isPart (c .before .before .before .args .component)) zeroPart (c .before .before .before .args .t2 .entries) (c .before .before .before .args .t2 .count) (c .place .given .0 .0)
+there : (c : tie.After-place) → Found (isPart (c .before .before .before .args .component)) zeroPart
+    (c .before .before .before .args .t2 .entries) (c .before .before .before .args .t2 .count) (c .place .given .0 .0)
 there c = found _ zeroPart _ _ _ (sym (c .before .before .find-part .ensures) ∙ c .place .given .1)
 
 below : (c : tie.After-place) → c .place .given .0 .0 < 64
-below c = omega (arith, there c .below, parts-long (c .before .before .before .args .t2) (c .before .before .before .good .1 .0))
+below c =
+    omega (
+      arith,
+      there c .below,
+      parts-long (c .before .before .before .args .t2)
+          (c .before .before .before .good .1 .0),
+    )
 
 mul-k : tie.Need-mul-k
 mul-k c = omega (arith, below (c .before))
@@ -24,7 +32,13 @@ returns c = rw (not-found _ _ (sym (c .before .before .find-part .ensures) ∙ c
 
 returns-2 : tie.Need-returns-2
 unfolding ownerIn bind viewBy viewOf partAt
-returns-2 c = rw (there (c .before .before .before) .same) (c .has-app .ensures ∙ app-here (appsIn (c .before .before .before .before .before .before .args .apps)) (getD (c .before .before .before .before .before .before .args .t2 .entries) (c .before .before .before .place .given .0 .0) zeroPart .app))
+returns-2 c =
+    rw (there (c .before .before .before) .same)
+    (c .has-app .ensures ∙ app-here (appsIn (c .before .before .before .before .before .before .args .apps))
+    (getD (c .before .before .before .before .before .before .args .t2 .entries)
+    (c .before .before .before .place .given .0 .0) zeroPart .app))
 
 pub owner-installed-spec : {M : Type 1} → statement M
-owner-installed-spec = tie.close (tie.spec (λ c κs. search needs) (λ c. search needs) (λ c. search needs) mul-k element-copy-out-k (λ c κs. search needs) returns returns-2)
+owner-installed-spec =
+    tie.close (tie.spec (λ c κs. search needs) (λ c. search needs) (λ c. search needs) mul-k element-copy-out-k
+    (λ c κs. search needs) returns returns-2)

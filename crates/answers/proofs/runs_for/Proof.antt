@@ -1,15 +1,23 @@
 -- `runs_for` meets its contract: the instance at the place that is found is the first of its number.
-use Rattle.answers.proofs.Kit.{_<_, sym, _∙_, arith, needs, test, mapOption, viewBy, isInstance, Found, found, not-found, instances-long}
+use Rattle.answers.proofs.Kit.{_<_, sym, _∙_, arith, needs, test, mapOption, viewBy, isInstance, Found, found}
+use Rattle.answers.proofs.Kit.{not-found, instances-long}
 use Rattle.state.specs.Stored.{zeroInstance}
 use Rattle.state.specs.Tables.{runIn, viewOf}
 use Rattle.answers.proofs.runs_for.Statement.{statement}
 use Rattle.answers.proofs.runs_for.Tie as tie
 
-there : (c : tie.After-run) → Found (isInstance (c .before .before .before .args .number)) zeroInstance (c .before .before .before .args .t2 .entries) (c .before .before .before .args .t2 .count) (c .run .given .0 .0)
+there : (c : tie.After-run) → Found (isInstance (c .before .before .before .args .number)) zeroInstance
+    (c .before .before .before .args .t2 .entries) (c .before .before .before .args .t2 .count) (c .run .given .0 .0)
 there c = found _ zeroInstance _ _ _ (sym (c .before .before .find-instance .ensures) ∙ c .run .given .1)
 
 below : (c : tie.After-run) → c .run .given .0 .0 < 64
-below c = omega (arith, there c .below, instances-long (c .before .before .before .args .t2) (c .before .before .before .good .1 .0))
+below c =
+    omega (
+      arith,
+      there c .below,
+      instances-long (c .before .before .before .args .t2)
+          (c .before .before .before .good .1 .0),
+    )
 
 mul-e : tie.Need-mul-e
 mul-e c = omega (arith, below (c .before))
@@ -26,4 +34,6 @@ unfolding test mapOption runIn viewBy viewOf
 returns-2 c = c .owned-by .ensures ∙ rw (there (c .before .before .before) .same)
 
 pub runs-for-spec : {M : Type 1} → statement M
-runs-for-spec = tie.close (tie.spec (λ c κs. search needs) (λ c. search needs) (λ c. search needs) mul-e element-copy-out-e (λ c κs. search needs) returns returns-2)
+runs-for-spec =
+    tie.close (tie.spec (λ c κs. search needs) (λ c. search needs) (λ c. search needs) mul-e element-copy-out-e
+    (λ c κs. search needs) returns returns-2)

@@ -6,11 +6,19 @@ use Rattle.answers.specs.Answering.{storedOf}
 use Rattle.answers.proofs.value_of.Statement.{statement}
 use Rattle.answers.proofs.value_of.Tie as tie
 
-there : (c : tie.After-place) → Found (isResource (c .before .before .before .args .provider) (c .before .before .before .args .uri)) zeroResource (c .before .before .before .args .t1 .entries) (c .before .before .before .args .t1 .count) (c .place .given .0 .0)
+there : (c : tie.After-place) → Found
+    (isResource (c .before .before .before .args .provider) (c .before .before .before .args .uri)) zeroResource
+    (c .before .before .before .args .t1 .entries) (c .before .before .before .args .t1 .count) (c .place .given .0 .0)
 there c = found _ zeroResource _ _ _ (sym (c .before .before .find-resource .ensures) ∙ c .place .given .1)
 
 below : (c : tie.After-place) → c .place .given .0 .0 < 128
-below c = omega (arith, there c .below, resources-long (c .before .before .before .args .t1) (c .before .before .before .good .0))
+below c =
+    omega (
+      arith,
+      there c .below,
+      resources-long (c .before .before .before .args .t1)
+          (c .before .before .before .good .0),
+    )
 
 mul-e : tie.Need-mul-e
 mul-e c = omega (arith, below (c .before))
@@ -27,4 +35,6 @@ unfolding storedOf valueIn mapOption
 returns-2 c = rw (there (c .before .before) .same)
 
 pub value-of-spec : {M : Type 1} → statement M
-value-of-spec = tie.close (tie.spec (λ c κs. search needs) (λ c. search needs) (λ c. search needs) mul-e element-copy-out-e returns returns-2)
+value-of-spec =
+    tie.close (tie.spec (λ c κs. search needs) (λ c. search needs) (λ c. search needs) mul-e element-copy-out-e returns
+    returns-2)

@@ -15,7 +15,8 @@ returns-2 c = rw (
 returns-3 : tie.Need-returns-3
 returns-3 c = c .lists-good .ensures
     ∙ rw (
-      sym (c .before .before .before .before .manifest-good .ensures) ∙ not-false _ (c .before .before .before .if1 .left),
+      sym (c .before .before .before .before .manifest-good .ensures) ∙ not-false _
+          (c .before .before .before .if1 .left),
       sym (c .before .before .grants-good .ensures) ∙ not-false _ (c .before .if2 .left),
     )
 
@@ -23,7 +24,13 @@ pub app-good-spec : {M : Type 1} → statement M
 app-good-spec =
     tie.close
     (tie.spec
-    (λ c κs. (c .pre .1 .0, (c .pre .0 .definitionsCount, (c .pre .0 .partsCount, (c .pre .0 .resourcesCount, (c .pre .0 .numbers, c .pre .1 .1))))))
+    (λ c κs. (
+      c .pre .1 .0,
+      (
+        c .pre .0 .definitionsCount,
+        (c .pre .0 .partsCount, (c .pre .0 .resourcesCount, (c .pre .0 .numbers, c .pre .1 .1))),
+      ),
+    ))
     returns
     (λ c κs. search needs)
     returns-2

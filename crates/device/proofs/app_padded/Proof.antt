@@ -22,7 +22,8 @@ returns c =
     cc (
       at (s .args .t1 .uses) (s .args .t1 .used) 32 _
           (c .before .before .before .before .before .before .before .before .bytes-padded .ensures) (uses s),
-      at (s .args .t1 .grants) (s .args .t1 .granted) 32 _ (c .before .before .before .before .bytes-padded2 .ensures) (grants s),
+      at (s .args .t1 .grants) (s .args .t1 .granted) 32 _ (c .before .before .before .before .bytes-padded2 .ensures)
+          (grants s),
       at (s .args .t1 .groups) (s .args .t1 .grouped) 15 _ (c .bytes-padded3 .ensures) (groups s),
     )
 

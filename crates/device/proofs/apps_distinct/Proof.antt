@@ -2,12 +2,15 @@
 use Rattle.state.specs.Valid.{sameApp}
 use Rattle.state.specs.Stored.{rowOf}
 use Rattle.rules.specs.ListsLaws.{distinct-image}
-use Rattle.device.proofs.Kit.{_≡_, _∙_, sym, _-_, arith, needs, length, length-map, take, distinct, Pairs, pairs-from, pairs-next, pairs-fails, pairs-ends}
+use Rattle.device.proofs.Kit.{_≡_, _∙_, sym, _-_, arith, needs, length, length-map, take, distinct, Pairs}
+use Rattle.device.proofs.Kit.{pairs-from, pairs-next, pairs-fails, pairs-ends}
 use Rattle.device.proofs.apps_distinct.Statement.{statement}
 use Rattle.device.proofs.apps_distinct.Tie as tie
 
 abbrev Inv-loop : tie.InvT-loop
-Inv-loop t n i₀ i = Pairs (λ x y. sameApp (rowOf x) (rowOf y)) (t .entries) n (distinct (λ x y. sameApp (rowOf x) (rowOf y)) (take n (t .entries))) i
+Inv-loop t n i₀ i =
+    Pairs (λ x y. sameApp (rowOf x) (rowOf y)) (t .entries) n
+    (distinct (λ x y. sameApp (rowOf x) (rowOf y)) (take n (t .entries))) i
 
 abbrev μ-loop : tie.MeasureT-loop
 μ-loop t n i₀ i = n - i

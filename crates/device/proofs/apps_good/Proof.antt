@@ -12,7 +12,8 @@ use Rattle.device.proofs.apps_good.Tie as tie
 
 abbrev Inv-loop : tie.InvT-loop
 Inv-loop definitions parts resources apps owners n i₀ i =
-    Each (λ a. goodRow (rowsIn apps) (definitionsIn definitions) (partsIn parts) (resourcesIn resources) (rowOf a)) (apps .entries) n
+    Each (λ a. goodRow (rowsIn apps) (definitionsIn definitions) (partsIn parts) (resourcesIn resources) (rowOf a))
+    (apps .entries) n
     (all (λ a. goodRow (rowsIn apps) (definitionsIn definitions) (partsIn parts) (resourcesIn resources) (rowOf a))
     (take n (apps .entries))) i
 
@@ -30,7 +31,8 @@ app-good-requires c κs =
     let s = c .before .before .before .before in (
       s .pre,
       (
-        all-get appPads (s .args .t1 .entries) (s .args .t1 .count) (c .before .before .loop .i) blankApp (s .pre .lists)
+        all-get appPads (s .args .t1 .entries) (s .args .t1 .count) (c .before .before .loop .i) blankApp
+            (s .pre .lists)
             (c .before .loop-test .taken) (omega (arith, long s, s .pre .appsCount, c .before .loop-test .taken)),
         c .before .before .before .owners-of .ensures,
       ),

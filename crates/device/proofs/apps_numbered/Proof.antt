@@ -2,12 +2,15 @@
 use Rattle.state.specs.Tables.{appNumber}
 use Rattle.state.specs.Stored.{rowOf}
 use Rattle.rules.specs.ListsLaws.{all-map}
-use Rattle.device.proofs.Kit.{_≡_, _∙_, sym, _-_, arith, length, length-map, take, all, ltb, lt-ltb, le-ltb, Each, each-from, each-next, each-fails, each-ends}
+use Rattle.device.proofs.Kit.{_≡_, _∙_, sym, _-_, arith, length, length-map, take, all, ltb, lt-ltb, le-ltb}
+use Rattle.device.proofs.Kit.{Each, each-from, each-next, each-fails, each-ends}
 use Rattle.device.proofs.apps_numbered.Statement.{statement}
 use Rattle.device.proofs.apps_numbered.Tie as tie
 
 abbrev Inv-loop : tie.InvT-loop
-Inv-loop t n i₀ i = Each (λ e. ltb 0 (appNumber (rowOf e))) (t .entries) n (all (λ e. ltb 0 (appNumber (rowOf e))) (take n (t .entries))) i
+Inv-loop t n i₀ i =
+    Each (λ e. ltb 0 (appNumber (rowOf e))) (t .entries) n
+    (all (λ e. ltb 0 (appNumber (rowOf e))) (take n (t .entries))) i
 
 abbrev μ-loop : tie.MeasureT-loop
 μ-loop t n i₀ i = n - i

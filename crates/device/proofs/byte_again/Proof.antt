@@ -1,5 +1,6 @@
 -- The loop finds an entry that is the same from the place on, or none up to the count.
-use Rattle.device.proofs.Kit.{_-_, arith, slice, any, eqb, eq-eqb, ne-eqb, Some, some-from, some-next, some-hits, some-ends}
+use Rattle.device.proofs.Kit.{_-_, arith, slice, any, eqb, eq-eqb, ne-eqb, Some, some-from, some-next, some-hits}
+use Rattle.device.proofs.Kit.{some-ends}
 use Rattle.device.proofs.byte_again.Statement.{statement}
 use Rattle.device.proofs.byte_again.Tie as tie
 

@@ -1,6 +1,7 @@
 -- The loop tests every byte up to the count, or finds one that fails.
 use Rattle.rules.specs.Refusals.{isGroup}
-use Rattle.device.proofs.Kit.{_∙_, sym, _-_, arith, needs, take, all, Each, each-from, each-next, each-fails, each-ends}
+use Rattle.device.proofs.Kit.{_∙_, sym, _-_, arith, needs, take, all, Each, each-from, each-next, each-fails}
+use Rattle.device.proofs.Kit.{each-ends}
 use Rattle.device.proofs.bytes_are_groups.Statement.{statement}
 use Rattle.device.proofs.bytes_are_groups.Tie as tie
 

@@ -1,5 +1,6 @@
 -- The loop looks for each entry again from the next place on, and finds none or one that is there twice.
-use Rattle.device.proofs.Kit.{_∙_, sym, _-_, arith, needs, take, distinct, Pairs, pairs-from, pairs-next, pairs-fails, pairs-ends, eqb}
+use Rattle.device.proofs.Kit.{_∙_, sym, _-_, arith, needs, take, distinct, Pairs, pairs-from, pairs-next}
+use Rattle.device.proofs.Kit.{pairs-fails, pairs-ends, eqb}
 use Rattle.device.proofs.bytes_distinct.Statement.{statement}
 use Rattle.device.proofs.bytes_distinct.Tie as tie
 

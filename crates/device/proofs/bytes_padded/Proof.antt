@@ -24,7 +24,8 @@ loop-again c = each-next (c .before .before .before .loop .inv) (c .before .befo
 returns-2 : tie.Need-returns-2 Inv-loop μ-loop
 returns-2 c = pads-within isZero _ (c .before .before .before .before .before .args .s .now) refl _
     (c .before .before .before .before .if1 .left)
-    (each-fails (c .before .before .before .loop .inv) (c .before .before .loop-test .taken) _ (ne-eqb _ _ (c .if2 .left)))
+    (each-fails (c .before .before .before .loop .inv) (c .before .before .loop-test .taken) _
+    (ne-eqb _ _ (c .if2 .left)))
 
 returns-3 : tie.Need-returns-3 Inv-loop μ-loop
 returns-3 c = pads-within isZero _ (c .before .before .before .args .s .now) refl _ (c .before .before .if1 .left)

@@ -11,19 +11,35 @@ use Rattle.device.proofs.grant_good.Tie as tie
 
 returns : tie.Need-returns
 unfolding grantable
-returns c = rw (sym (c .before .has-byte .ensures) ∙ not-true _ (c .if1 .taken)) (sym (test-false (known (viewBy (rowsIn (c .before .before .before .before .before .args .apps)) (definitionsIn (c .before .before .before .before .before .args .definitions)) [] []) (c .before .before .before .before .before .args .permission))))
+returns c =
+    rw (sym (c .before .has-byte .ensures) ∙ not-true _ (c .if1 .taken))
+    (sym (test-false (known (viewBy (rowsIn (c .before .before .before .before .before .args .apps))
+    (definitionsIn (c .before .before .before .before .before .args .definitions)) [] [])
+    (c .before .before .before .before .before .args .permission))))
 
-listed : (c : tie.Else1) → mem (c .before .before .before .before .before .args .permission) (take (c .before .before .before .before .before .args .t1 .used) (c .before .before .before .before .before .args .t1 .uses)) ≡ true
+listed : (c : tie.Else1) → mem (c .before .before .before .before .before .args .permission)
+    (take (c .before .before .before .before .before .args .t1 .used)
+    (c .before .before .before .before .before .args .t1 .uses)) ≡ true
 listed c = sym (c .before .has-byte .ensures) ∙ not-false _ (c .if1 .left)
 
 returns-2 : tie.Need-returns-2
 unfolding test
-returns-2 c = rw (look-none (known (viewBy (rowsIn (c .before .before .before .before .before .before .before .before .args .apps)) (definitionsIn (c .before .before .before .before .before .before .before .before .args .definitions)) [] []) (c .before .before .before .before .before .before .before .before .args .permission)) (sym (c .before .before .known-of .ensures) ∙ c .enum-told .given .1))
+returns-2 c =
+    rw (look-none (known (viewBy (rowsIn
+    (c .before .before .before .before .before .before .before .before .args .apps))
+    (definitionsIn (c .before .before .before .before .before .before .before .before .args .definitions)) [] [])
+    (c .before .before .before .before .before .before .before .before .args .permission))
+    (sym (c .before .before .known-of .ensures) ∙ c .enum-told .given .1))
 
 returns-3 : tie.Need-returns-3
 unfolding test grantable
 returns-3 c = rw (
-  look-found (known (viewBy (rowsIn (c .before .before .before .before .before .before .before .before .before .before .args .apps)) (definitionsIn (c .before .before .before .before .before .before .before .before .before .before .args .definitions)) [] []) (c .before .before .before .before .before .before .before .before .before .before .args .permission)) _
+  look-found
+      (known (viewBy (rowsIn
+      (c .before .before .before .before .before .before .before .before .before .before .args .apps))
+      (definitionsIn
+      (c .before .before .before .before .before .before .before .before .before .before .args .definitions)) [] [])
+      (c .before .before .before .before .before .before .before .before .before .before .args .permission)) _
       (sym (c .before .before .before .before .known-of .ensures) ∙ c .before .before .look .given .1),
   listed (c .before .before .before .before .before),
 )

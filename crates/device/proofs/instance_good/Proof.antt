@@ -8,7 +8,9 @@ use Rattle.device.proofs.instance_good.Tie as tie
 
 returns : tie.Need-returns
 returns c = rw (
-  part-test (λ k. not (isProvider (k .component))) (partsIn (c .before .before .before .before .before .before .args .parts)) (c .before .before .before .before .before .before .args .e .component),
+  part-test (λ k. not (isProvider (k .component)))
+      (partsIn (c .before .before .before .before .before .before .args .parts))
+      (c .before .before .before .before .before .before .args .e .component),
   c .before .has-part .ensures,
   c .before .before .before .before .before .part-at .ensures,
 )

@@ -1,12 +1,14 @@
 -- The loop tests every instance up to the count, or finds one that fails.
 use Rattle.tables.specs.Held.{partsIn}
 use Rattle.device.specs.Tests.{goodInstance}
-use Rattle.device.proofs.Kit.{_≡_, _∙_, sym, _-_, arith, needs, length, length-map, take, all, Each, each-from, each-next, each-fails, each-ends}
+use Rattle.device.proofs.Kit.{_≡_, _∙_, sym, _-_, arith, needs, length, length-map, take, all, Each, each-from}
+use Rattle.device.proofs.Kit.{each-next, each-fails, each-ends}
 use Rattle.device.proofs.instances_good.Statement.{statement}
 use Rattle.device.proofs.instances_good.Tie as tie
 
 abbrev Inv-loop : tie.InvT-loop
-Inv-loop parts t n i₀ i = Each (goodInstance (partsIn parts)) (t .entries) n (all (goodInstance (partsIn parts)) (take n (t .entries))) i
+Inv-loop parts t n i₀ i =
+    Each (goodInstance (partsIn parts)) (t .entries) n (all (goodInstance (partsIn parts)) (take n (t .entries))) i
 
 abbrev μ-loop : tie.MeasureT-loop
 μ-loop parts t n i₀ i = n - i

@@ -6,12 +6,14 @@ use Rattle.device.proofs.lists_good.Tie as tie
 
 grants : (c : tie.Start) → c .args .t1 .granted ≤ length (c .args .t1 .grants)
 grants c =
-    let l : length (c .args .t1 .grants) ≡ 32 = sym (length-map (c .args .t1 .grants) _) ∙ c .good .0 .1 .1 .1 .1 .1 .1 .1 .0 .1 .0 .1 in
+    let l : length (c .args .t1 .grants) ≡ 32 = sym (length-map (c .args .t1 .grants) _)
+    ∙ c .good .0 .1 .1 .1 .1 .1 .1 .1 .0 .1 .0 .1 in
     omega (arith, app-counts (c .args .t1) (c .pre) .granted)
 
 groups : (c : tie.Start) → c .args .t1 .grouped ≤ length (c .args .t1 .groups)
 groups c =
-    let l : length (c .args .t1 .groups) ≡ 15 = sym (length-map (c .args .t1 .groups) _) ∙ c .good .0 .1 .1 .1 .1 .1 .1 .1 .1 .1 .0 .1 .0 .1 in
+    let l : length (c .args .t1 .groups) ≡ 15 = sym (length-map (c .args .t1 .groups) _)
+    ∙ c .good .0 .1 .1 .1 .1 .1 .1 .1 .1 .1 .0 .1 .0 .1 in
     omega (arith, app-counts (c .args .t1) (c .pre) .grouped)
 
 bytes-are-groups-requires : tie.Need-bytes-are-groups-requires
@@ -21,10 +23,16 @@ bytes-distinct-requires : tie.Need-bytes-distinct-requires
 bytes-distinct-requires c κs = grants (c .before .before .before .before .before .before .before)
 
 bytes-distinct-requires-2 : tie.Need-bytes-distinct-requires-2
-bytes-distinct-requires-2 c κs = groups (c .before .before .before .before .before .before .before .before .before .before .before)
+bytes-distinct-requires-2 c κs =
+    groups (c .before .before .before .before .before .before .before .before .before .before .before)
 
 returns : tie.Need-returns
-returns c = rw (c .before .before .before .before .before .before .before .before .bytes-are-groups .ensures, c .before .before .before .before .bytes-distinct .ensures, c .bytes-distinct2 .ensures)
+returns c =
+    rw (
+      c .before .before .before .before .before .before .before .before .bytes-are-groups .ensures,
+      c .before .before .before .before .bytes-distinct .ensures,
+      c .bytes-distinct2 .ensures,
+    )
 
 pub lists-good-spec : {M : Type 1} → statement M
 lists-good-spec =

@@ -1,6 +1,7 @@
 -- The loop tests every app up to the count, or finds one whose lists are not padded.
 use Rattle.state.specs.Stored.{appPads}
-use Rattle.device.proofs.Kit.{_≡_, _∙_, sym, _-_, arith, needs, length, length-map, take, all, Each, each-from, each-next, each-fails, each-ends}
+use Rattle.device.proofs.Kit.{_≡_, _∙_, sym, _-_, arith, needs, length, length-map, take, all, Each, each-from}
+use Rattle.device.proofs.Kit.{each-next, each-fails, each-ends}
 use Rattle.device.proofs.lists_padded.Statement.{statement}
 use Rattle.device.proofs.lists_padded.Tie as tie
 

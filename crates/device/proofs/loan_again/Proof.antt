@@ -1,6 +1,7 @@
 -- The loop finds an entry that is the same from the place on, or none up to the count.
 use Rattle.state.specs.Valid.{sameLoan}
-use Rattle.device.proofs.Kit.{_≡_, _∙_, sym, _-_, arith, needs, length, slice, any, Some, some-from, some-next, some-hits, some-ends}
+use Rattle.device.proofs.Kit.{_≡_, _∙_, sym, _-_, arith, needs, length, slice, any, Some, some-from, some-next}
+use Rattle.device.proofs.Kit.{some-hits, some-ends}
 use Rattle.device.proofs.loan_again.Statement.{statement}
 use Rattle.device.proofs.loan_again.Tie as tie
 

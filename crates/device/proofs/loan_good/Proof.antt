@@ -10,7 +10,9 @@ use Rattle.device.proofs.loan_good.Tie as tie
 returns : tie.Need-returns
 unfolding isOperations
 returns c = rw (
-  part-test-or isSharingProvider refl (partsIn (c .before .before .before .before .before .before .before .before .args .d .parts)) (c .before .before .before .before .before .before .before .before .args .x .provider),
+  part-test-or isSharingProvider refl
+      (partsIn (c .before .before .before .before .before .before .before .before .args .d .parts))
+      (c .before .before .before .before .before .before .before .before .args .x .provider),
   c .before .before .before .before .before .before .before .live .ensures,
   c .before .before .before .before .before .before .part-at .ensures,
   c .before .before .has-resource .ensures,

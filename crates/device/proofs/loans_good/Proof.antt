@@ -1,12 +1,16 @@
 -- The loop tests every loan up to the count, or finds one that fails.
 use Rattle.tables.specs.Held.{rowsIn, partsIn, resourcesIn, instancesIn}
 use Rattle.device.specs.Tests.{goodLoan}
-use Rattle.device.proofs.Kit.{_≡_, _∙_, sym, _-_, arith, needs, length, take, all, Each, each-from, each-next, each-fails, each-ends}
+use Rattle.device.proofs.Kit.{_≡_, _∙_, sym, _-_, arith, needs, length, take, all, Each, each-from, each-next}
+use Rattle.device.proofs.Kit.{each-fails, each-ends}
 use Rattle.device.proofs.loans_good.Statement.{statement}
 use Rattle.device.proofs.loans_good.Tie as tie
 
 abbrev Inv-loop : tie.InvT-loop
-Inv-loop count d lent i₀ i = Each (goodLoan (rowsIn (d .apps)) (partsIn (d .parts)) (resourcesIn (d .resources)) (instancesIn (d .instances))) lent count (all (goodLoan (rowsIn (d .apps)) (partsIn (d .parts)) (resourcesIn (d .resources)) (instancesIn (d .instances))) (take count lent)) i
+Inv-loop count d lent i₀ i =
+    Each (goodLoan (rowsIn (d .apps)) (partsIn (d .parts)) (resourcesIn (d .resources)) (instancesIn (d .instances)))
+    lent count (all (goodLoan (rowsIn (d .apps)) (partsIn (d .parts)) (resourcesIn (d .resources))
+    (instancesIn (d .instances))) (take count lent)) i
 
 abbrev μ-loop : tie.MeasureT-loop
 μ-loop count d lent i₀ i = count - i

@@ -4,7 +4,8 @@ use Rattle.manifest.specs.Good.{usesRise, goodDefines, goodComponents}
 use Rattle.tables.specs.Held.{definitionsIn, partsIn}
 use Rattle.device.specs.Tests.{definesOf, componentsOf}
 use Rattle.device.specs.StoredLaws.{app-counts}
-use Rattle.device.proofs.Kit.{_≡_, _∙_, true, sym, arith, needs, length, length-map, take, leb, ltb, le-leb, lt-ltb}
+use Rattle.device.proofs.Kit.{_≡_, _∙_, true, sym, arith, needs, length, length-map, take, leb, ltb, le-leb}
+use Rattle.device.proofs.Kit.{lt-ltb}
 use Rattle.device.proofs.Kit.{le-ltb, ltb-true, not-true, not-false}
 use Rattle.device.proofs.manifest_good.Statement.{statement}
 use Rattle.device.proofs.manifest_good.Tie as tie
@@ -22,13 +23,22 @@ number c = lt-ltb 0 (c .before .args .t1 .number) (omega (arith, c .if1 .left))
 signer : (c : tie.Else2) → ltb 0 (c .before .before .args .t1 .signer) ≡ true
 signer c = lt-ltb 0 (c .before .before .args .t1 .signer) (omega (arith, c .if2 .left))
 
-rise : (c : tie.Else3) → usesRise 0 (take (c .before .before .before .before .before .before .before .args .t1 .used) (c .before .before .before .before .before .before .before .args .t1 .uses)) ≡ true
+rise : (c : tie.Else3) → usesRise 0
+    (take (c .before .before .before .before .before .before .before .args .t1 .used)
+    (c .before .before .before .before .before .before .before .args .t1 .uses)) ≡ true
 rise c = sym (c .before .uses-rise .ensures) ∙ not-false _ (c .if3 .left)
 
-defines : (c : tie.Else4) → goodDefines (definesOf (c .before .before .before .before .before .before .before .before .before .args .t1 .number) (definitionsIn (c .before .before .before .before .before .before .before .before .before .args .definitions))) ≡ true
+defines : (c : tie.Else4) → goodDefines
+    (definesOf (c .before .before .before .before .before .before .before .before .before .args .t1 .number)
+    (definitionsIn (c .before .before .before .before .before .before .before .before .before .args .definitions)))
+    ≡ true
 defines c = sym (c .before .definitions-good .ensures) ∙ not-false _ (c .if4 .left)
 
-components : (c : tie.Else5) → goodComponents (componentsOf (c .before .before .before .before .before .before .before .before .before .before .before .args .t1 .number) (partsIn (c .before .before .before .before .before .before .before .before .before .before .before .args .parts))) ≡ true
+components : (c : tie.Else5) → goodComponents
+    (componentsOf
+    (c .before .before .before .before .before .before .before .before .before .before .before .args .t1 .number)
+    (partsIn (c .before .before .before .before .before .before .before .before .before .before .before .args .parts)))
+    ≡ true
 components c = sym (c .before .parts-good .ensures) ∙ not-false _ (c .if5 .left)
 
 returns : tie.Need-returns
@@ -38,10 +48,18 @@ returns-2 : tie.Need-returns-2
 returns-2 c = rw (number (c .before), le-ltb 0 (c .before .before .args .t1 .signer) (omega (arith, c .if2 .taken)))
 
 uses-rise-requires : tie.Need-uses-rise-requires
-uses-rise-requires c κs = let s = c .before .before .before .before .before in omega (arith, uses s, app-counts (s .args .t1) (s .pre .0) .used)
+uses-rise-requires c κs = let s = c .before .before .before .before .before in
+    omega (arith, uses s, app-counts (s .args .t1) (s .pre .0) .used)
 
 returns-3 : tie.Need-returns-3
-returns-3 c = rw (number (c .before .before .before .before .before .before), signer (c .before .before .before .before .before), few (c .before .before .before .before .before .before .before), sym (c .before .uses-rise .ensures) ∙ not-true _ (c .if3 .taken))
+returns-3 c =
+    rw (
+      number (c .before .before .before .before .before .before),
+      signer (c .before .before .before .before .before),
+      few (c .before .before .before .before .before .before .before),
+      sym (c .before .uses-rise .ensures) ∙ not-true _
+          (c .if3 .taken),
+    )
 
 returns-4 : tie.Need-returns-4
 returns-4 c = rw (
@@ -64,12 +82,31 @@ returns-5 c = rw (
 
 resources-good-requires : tie.Need-resources-good-requires
 resources-good-requires c κs =
-    let s = c .before .before .before .before .before .before .before .before .before .before .before in
-    (s .pre .1 .1 .1 .0, (s .pre .1 .1 .1 .1 .0, (s .pre .1 .1 .1 .1 .1, ltb-true 0 _ (number (c .before .before .before .before .before .before .before .before .before .before)))))
+    let s = c .before .before .before .before .before .before .before .before .before .before .before in (
+      s .pre .1 .1 .1 .0,
+      (
+        s .pre .1 .1 .1 .1 .0,
+        (
+          s .pre .1 .1 .1 .1 .1,
+          ltb-true 0 _
+              (number (c .before .before .before .before .before .before .before .before .before .before)),
+        ),
+      ),
+    )
 
 returns-6 : tie.Need-returns-6
 returns-6 c = c .resources-good .ensures
-    ∙ rw (number (c .before .before .before .before .before .before .before .before .before .before .before), signer (c .before .before .before .before .before .before .before .before .before .before), few (c .before .before .before .before .before .before .before .before .before .before .before .before), rise (c .before .before .before .before .before), defines (c .before .before .before), components (c .before))
+    ∙ rw (
+      number (c .before .before .before .before .before .before .before .before .before .before .before),
+      signer
+          (c .before .before .before .before .before .before .before .before .before .before),
+      few
+          (c .before .before .before .before .before .before .before .before .before .before .before .before),
+      rise
+          (c .before .before .before .before .before),
+      defines (c .before .before .before),
+      components (c .before),
+    )
 
 pub manifest-good-spec : {M : Type 1} → statement M
 manifest-good-spec =

@@ -14,15 +14,18 @@ returns-2 c = rw (
 
 returns-3 : tie.Need-returns-3
 returns-3 c = rw (
-  sym (c .before .before .before .before .before .apps-distinct .ensures) ∙ not-false _ (c .before .before .before .before .if1 .left),
+  sym (c .before .before .before .before .before .apps-distinct .ensures) ∙ not-false _
+      (c .before .before .before .before .if1 .left),
   sym (c .before .before .before .apps-numbered .ensures) ∙ not-false _ (c .before .before .if2 .left),
   sym (c .before .parts-distinct .ensures) ∙ not-true _ (c .if3 .taken),
 )
 
 returns-4 : tie.Need-returns-4
 returns-4 c = rw (
-  sym (c .before .before .before .before .before .before .before .apps-distinct .ensures) ∙ not-false _ (c .before .before .before .before .before .before .if1 .left),
-  sym (c .before .before .before .before .before .apps-numbered .ensures) ∙ not-false _ (c .before .before .before .before .if2 .left),
+  sym (c .before .before .before .before .before .before .before .apps-distinct .ensures) ∙ not-false _
+      (c .before .before .before .before .before .before .if1 .left),
+  sym (c .before .before .before .before .before .apps-numbered .ensures) ∙ not-false _
+      (c .before .before .before .before .if2 .left),
   sym (c .before .before .before .parts-distinct .ensures) ∙ not-false _ (c .before .before .if3 .left),
   sym (c .before .parts-numbered .ensures) ∙ not-true _ (c .if4 .taken),
 )
@@ -30,9 +33,12 @@ returns-4 c = rw (
 returns-5 : tie.Need-returns-5
 returns-5 c = c .resources-distinct .ensures
     ∙ rw (
-      sym (c .before .before .before .before .before .before .before .before .apps-distinct .ensures) ∙ not-false _ (c .before .before .before .before .before .before .before .if1 .left),
-      sym (c .before .before .before .before .before .before .apps-numbered .ensures) ∙ not-false _ (c .before .before .before .before .before .if2 .left),
-      sym (c .before .before .before .before .parts-distinct .ensures) ∙ not-false _ (c .before .before .before .if3 .left),
+      sym (c .before .before .before .before .before .before .before .before .apps-distinct .ensures) ∙ not-false _
+          (c .before .before .before .before .before .before .before .if1 .left),
+      sym (c .before .before .before .before .before .before .apps-numbered .ensures) ∙ not-false _
+          (c .before .before .before .before .before .if2 .left),
+      sym (c .before .before .before .before .parts-distinct .ensures) ∙ not-false _
+          (c .before .before .before .if3 .left),
       sym (c .before .before .parts-numbered .ensures) ∙ not-false _ (c .before .if4 .left),
     )
 

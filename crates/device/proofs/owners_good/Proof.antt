@@ -15,7 +15,8 @@ returns-2 c = rw (
 returns-3 : tie.Need-returns-3
 returns-3 c = c .definitions-owned .ensures
     ∙ rw (
-      sym (c .before .before .before .before .parts-owned .ensures) ∙ not-false _ (c .before .before .before .if1 .left),
+      sym (c .before .before .before .before .parts-owned .ensures) ∙ not-false _
+          (c .before .before .before .if1 .left),
       sym (c .before .before .resources-owned .ensures) ∙ not-false _ (c .before .if2 .left),
     )
 

@@ -9,7 +9,8 @@ use Rattle.device.proofs.owners_of.Statement.{statement}
 use Rattle.device.proofs.owners_of.Tie as tie
 
 abbrev Inv-loop : tie.InvT-loop
-Inv-loop parts t n owners₀ i₀ owners i = Filled (λ r. partOr (partsIn parts) (r .provider) .app) 0 128 (t .entries) n i owners
+Inv-loop parts t n owners₀ i₀ owners i =
+    Filled (λ r. partOr (partsIn parts) (r .provider) .app) 0 128 (t .entries) n i owners
 
 abbrev μ-loop : tie.MeasureT-loop
 μ-loop parts t n owners₀ i₀ owners i = n - i
@@ -28,7 +29,8 @@ returns : tie.Need-returns Inv-loop μ-loop
 returns c =
     let s = c .before .before .before in
     let e : c .before .loop .i ≡ s .args .t1 .count = omega (arith, c .before .loop .inv .inside) in
-    c .before .loop .inv .same ∙ ap (λ (m : ℕ). padded 0 128 (ownersIn (partsIn (s .args .parts)) (take m (s .args .t1 .entries)))) e
+    c .before .loop .inv .same ∙ ap
+    (λ (m : ℕ). padded 0 128 (ownersIn (partsIn (s .args .parts)) (take m (s .args .t1 .entries)))) e
 
 pub owners-of-spec : {M : Type 1} → statement M
 owners-of-spec =

@@ -15,13 +15,15 @@ there c = found _ zeroPart _ _ _ (sym (c .before .before .find-part .ensures) �
 below : (c : tie.After-place) → c .place .given .0 .0 < 64
 below c =
     let s = c .before .before .before in
-    let l : length (s .args .t1 .entries) ≡ 64 = sym (length-map (s .args .t1 .entries) _) ∙ s .good .0 .1 .1 .0 .1 .0 .1 in
+    let l : length (s .args .t1 .entries) ≡ 64 = sym (length-map (s .args .t1 .entries) _)
+    ∙ s .good .0 .1 .1 .0 .1 .0 .1 in
     omega (arith, there c .below)
 
 returns : tie.Need-returns
 unfolding partAt orElse
 returns c = c .no-part .ensures
-    ∙ rw (not-found (isPart (c .before .before .before .before .args .number)) _ (sym (c .before .before .before .find-part .ensures) ∙ c .before .enum-told .given .1))
+    ∙ rw (not-found (isPart (c .before .before .before .before .args .number)) _
+    (sym (c .before .before .before .find-part .ensures) ∙ c .before .enum-told .given .1))
 
 returns-2 : tie.Need-returns-2
 unfolding partAt orElse

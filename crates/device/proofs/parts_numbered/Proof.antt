@@ -1,10 +1,13 @@
 -- The loop tests every number up to the count, or finds one that is zero.
-use Rattle.device.proofs.Kit.{_≡_, _∙_, sym, _-_, arith, length, length-map, take, all, ltb, lt-ltb, le-ltb, Each, each-from, each-next, each-fails, each-ends}
+use Rattle.device.proofs.Kit.{_≡_, _∙_, sym, _-_, arith, length, length-map, take, all, ltb, lt-ltb, le-ltb}
+use Rattle.device.proofs.Kit.{Each, each-from, each-next, each-fails, each-ends}
 use Rattle.device.proofs.parts_numbered.Statement.{statement}
 use Rattle.device.proofs.parts_numbered.Tie as tie
 
 abbrev Inv-loop : tie.InvT-loop
-Inv-loop t n i₀ i = Each (λ e. ltb 0 (e .component .number)) (t .entries) n (all (λ e. ltb 0 (e .component .number)) (take n (t .entries))) i
+Inv-loop t n i₀ i =
+    Each (λ e. ltb 0 (e .component .number)) (t .entries) n
+    (all (λ e. ltb 0 (e .component .number)) (take n (t .entries))) i
 
 abbrev μ-loop : tie.MeasureT-loop
 μ-loop t n i₀ i = n - i
@@ -16,11 +19,15 @@ loop-holds : tie.Need-loop-holds Inv-loop μ-loop
 loop-holds c = each-from 0 (omega (arith, long c)) (omega arith)
 
 loop-again : tie.Need-loop-again Inv-loop μ-loop
-loop-again c = each-next (c .before .before .before .before .before .loop .inv) (c .before .before .before .before .loop-test .taken) _
+loop-again c =
+    each-next (c .before .before .before .before .before .loop .inv)
+    (c .before .before .before .before .loop-test .taken) _
     (lt-ltb _ _ (c .if1 .taken))
 
 returns : tie.Need-returns Inv-loop μ-loop
-returns c = each-fails (c .before .before .before .before .before .loop .inv) (c .before .before .before .before .loop-test .taken) _
+returns c =
+    each-fails (c .before .before .before .before .before .loop .inv)
+    (c .before .before .before .before .loop-test .taken) _
     (le-ltb _ _ (c .if1 .left))
 
 returns-2 : tie.Need-returns-2 Inv-loop μ-loop

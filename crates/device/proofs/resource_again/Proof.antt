@@ -1,11 +1,13 @@
 -- The loop finds an entry that is the same from the place on, or none up to the count.
 use Rattle.state.specs.Tables.{isResource}
-use Rattle.device.proofs.Kit.{_≡_, _∙_, sym, _-_, arith, needs, length, length-map, slice, any, Some, some-from, some-next, some-hits, some-ends}
+use Rattle.device.proofs.Kit.{_≡_, _∙_, sym, _-_, arith, needs, length, length-map, slice, any, Some, some-from}
+use Rattle.device.proofs.Kit.{some-next, some-hits, some-ends}
 use Rattle.device.proofs.resource_again.Statement.{statement}
 use Rattle.device.proofs.resource_again.Tie as tie
 
 abbrev Inv-loop : tie.InvT-loop
-Inv-loop provider uri i t n j₀ j = Some (isResource provider uri) (t .entries) n (any (isResource provider uri) (slice i n (t .entries))) j
+Inv-loop provider uri i t n j₀ j =
+    Some (isResource provider uri) (t .entries) n (any (isResource provider uri) (slice i n (t .entries))) j
 
 abbrev μ-loop : tie.MeasureT-loop
 μ-loop provider uri i t n j₀ j = n - j

@@ -1,6 +1,7 @@
 -- The loop looks for each entry again from the next place on, and finds none or one that is there twice.
 use Rattle.state.specs.Valid.{sameResource}
-use Rattle.device.proofs.Kit.{_≡_, _∙_, sym, _-_, arith, needs, length, length-map, take, distinct, Pairs, pairs-from, pairs-next, pairs-fails, pairs-ends}
+use Rattle.device.proofs.Kit.{_≡_, _∙_, sym, _-_, arith, needs, length, length-map, take, distinct, Pairs}
+use Rattle.device.proofs.Kit.{pairs-from, pairs-next, pairs-fails, pairs-ends}
 use Rattle.device.proofs.resources_distinct.Statement.{statement}
 use Rattle.device.proofs.resources_distinct.Tie as tie
 

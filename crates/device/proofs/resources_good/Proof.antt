@@ -1,19 +1,23 @@
--- The loop takes the resources of the app while there is room, each passes its test and the keys rise; it skips the others.
+-- The loop takes the resources of the app while there is room, each passes its test and the keys rise; it skips the
+-- others.
 use Rattle.manifest.specs.Good.{resourceKey, goodResource, goodResources}
 use Rattle.state.specs.Tables.{ownedBy}
 use Rattle.state.specs.Stored.{zeroResource}
 use Rattle.tables.specs.Held.{partsIn, resourcesIn}
 use Rattle.device.specs.Tests.{partOr, componentsOf, resourcesOf}
 use Rattle.device.specs.PartLaws.{owned, good-if-provided, map-same, filled-at}
-use Rattle.device.specs.ScanLaws.{fewRising, RiseOf, rise-of-begin, rise-of-skips, rise-of-takes, rise-of-fails, rise-of-ends}
-use Rattle.device.proofs.Kit.{ℕ, Bool, List, true, _-_, _≡_, _∙_, sym, ap, take, getD, map, keep, arith, needs, length, length-map}
+use Rattle.device.specs.ScanLaws.{fewRising, RiseOf, rise-of-begin, rise-of-skips, rise-of-takes, rise-of-fails}
+use Rattle.device.specs.ScanLaws.{rise-of-ends}
+use Rattle.device.proofs.Kit.{ℕ, Bool, List, true, _-_, _≡_, _∙_, sym, ap, take, getD, map, keep, arith, needs}
+use Rattle.device.proofs.Kit.{length, length-map}
 use Rattle.device.proofs.Kit.{eqb, eq-eqb, ne-eqb, ltb, ltb-true, not-true, not-false, and-left}
 use Rattle.device.proofs.resources_good.Statement.{statement}
 use Rattle.device.proofs.resources_good.Tie as tie
 
 abbrev Inv-loop : tie.InvT-loop
 Inv-loop parts app t owners n i₀ room₀ low₀ i room low =
-    RiseOf (λ r. ownedBy (partsIn parts) app (r .provider)) (λ r. r) resourceKey (goodResource (componentsOf app (partsIn parts)))
+    RiseOf (λ r. ownedBy (partsIn parts) app (r .provider)) (λ r. r) resourceKey
+    (goodResource (componentsOf app (partsIn parts)))
     (t .entries) n
     (fewRising resourceKey (goodResource (componentsOf app (partsIn parts))) 32 0
     (map (λ r. r) (keep (λ r. ownedBy (partsIn parts) app (r .provider)) (take n (t .entries))))) i room low
@@ -41,23 +45,28 @@ owner c =
 -- the resource at the place is the app's
 its-own : (c : tie.Then1 Inv-loop μ-loop)
     → eqb (partOr (partsIn (c .before .before .before .before .args .parts))
-    (getD (c .before .before .before .before .args .t1 .entries) (c .before .before .before .loop .i) zeroResource .provider) .app)
+    (getD (c .before .before .before .before .args .t1 .entries) (c .before .before .before .loop .i)
+    zeroResource .provider) .app)
     (c .before .before .before .before .args .app) ≡ true
 its-own c = eq-eqb _ _ (sym (owner (c .before)) ∙ c .if1 .taken)
 
 mine : (s : tie.Start Inv-loop μ-loop) (p : ℕ)
-    → ownedBy (partsIn (s .args .parts)) (s .args .app) p ≡ eqb (partOr (partsIn (s .args .parts)) p .app) (s .args .app)
+    → ownedBy (partsIn (s .args .parts)) (s .args .app) p ≡ eqb (partOr (partsIn (s .args .parts)) p .app)
+    (s .args .app)
 mine s p = owned (partsIn (s .args .parts)) (s .pre .1 .0) (s .args .app) (s .pre .1 .1 .1) p
 
 -- its test, as the law asks for it
 test-is : (c : tie.After-provided Inv-loop μ-loop) → c .provided .result
-    ≡ goodResource (componentsOf (c .before .before .before .before .before .before .args .app) (partsIn (c .before .before .before .before .before .before .args .parts)))
-    (getD (c .before .before .before .before .before .before .args .t1 .entries) (c .before .before .before .before .before .loop .i) zeroResource)
+    ≡ goodResource (componentsOf (c .before .before .before .before .before .before .args .app)
+    (partsIn (c .before .before .before .before .before .before .args .parts)))
+    (getD (c .before .before .before .before .before .before .args .t1 .entries)
+    (c .before .before .before .before .before .loop .i) zeroResource)
 test-is c =
     let s = c .before .before .before .before .before .before in
     c .provided .ensures
     ∙ sym (good-if-provided (partsIn (s .args .parts)) (s .pre .1 .0) (s .args .app) (s .pre .1 .1 .1)
-    (getD (s .args .t1 .entries) (c .before .before .before .before .before .loop .i) zeroResource) (its-own (c .before .before)))
+    (getD (s .args .t1 .entries) (c .before .before .before .before .before .loop .i) zeroResource)
+    (its-own (c .before .before)))
 
 whole : (s : tie.Start Inv-loop μ-loop) {b : Bool}
     → b ≡ fewRising resourceKey (goodResource (componentsOf (s .args .app) (partsIn (s .args .parts)))) 32 0
@@ -69,16 +78,20 @@ whole s e = e ∙ ap (goodResources (componentsOf (s .args .app) (partsIn (s .ar
 
 returns : tie.Need-returns Inv-loop μ-loop
 returns c = whole (c .before .before .before .before .before .before .before)
-    (rise-of-fails (c .before .before .before .before .before .before .loop .inv) (c .before .before .before .before .before .loop-test .taken) zeroResource
+    (rise-of-fails (c .before .before .before .before .before .before .loop .inv)
+    (c .before .before .before .before .before .loop-test .taken) zeroResource
     (mine (c .before .before .before .before .before .before .before) _ ∙ its-own (c .before .before .before))
     (rw (← c .before .before .resource-key .ensures, ← test-is (c .before)) (not-true _ (c .if2 .taken))))
 
 sub-room : tie.Need-sub-room Inv-loop μ-loop
-sub-room c = ltb-true 0 (c .before .before .before .before .before .before .loop .room) (and-left (ltb 0 (c .before .before .before .before .before .before .loop .room)) _ (not-false _ (c .if2 .left)))
+sub-room c =
+    ltb-true 0 (c .before .before .before .before .before .before .loop .room)
+    (and-left (ltb 0 (c .before .before .before .before .before .before .loop .room)) _ (not-false _ (c .if2 .left)))
 
 loop-again : tie.Need-loop-again Inv-loop μ-loop
 loop-again c = rw (c .before .before .resource-key .ensures)
-    (rise-of-takes (c .before .before .before .before .before .before .loop .inv) (c .before .before .before .before .before .loop-test .taken) zeroResource
+    (rise-of-takes (c .before .before .before .before .before .before .loop .inv)
+    (c .before .before .before .before .before .loop-test .taken) zeroResource
     (mine (c .before .before .before .before .before .before .before) _ ∙ its-own (c .before .before .before))
     (rw (← c .before .before .resource-key .ensures, ← test-is (c .before)) (not-false _ (c .if2 .left))))
 

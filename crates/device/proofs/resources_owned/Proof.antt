@@ -1,11 +1,14 @@
 -- The loop finds the provider of every resource up to the count, or one whose provider is not installed.
 use Rattle.tables.specs.Held.{partsIn}
-use Rattle.device.proofs.Kit.{_≡_, _∙_, sym, _-_, arith, needs, length, length-map, take, all, Each, each-from, each-next, each-fails, each-ends, any, eqb}
+use Rattle.device.proofs.Kit.{_≡_, _∙_, sym, _-_, arith, needs, length, length-map, take, all, Each, each-from}
+use Rattle.device.proofs.Kit.{each-next, each-fails, each-ends, any, eqb}
 use Rattle.device.proofs.resources_owned.Statement.{statement}
 use Rattle.device.proofs.resources_owned.Tie as tie
 
 abbrev Inv-loop : tie.InvT-loop
-Inv-loop parts t n i₀ i = Each (λ e. any (λ k. eqb (k .component .number) (e .provider)) (partsIn parts)) (t .entries) n (all (λ e. any (λ k. eqb (k .component .number) (e .provider)) (partsIn parts)) (take n (t .entries))) i
+Inv-loop parts t n i₀ i =
+    Each (λ e. any (λ k. eqb (k .component .number) (e .provider)) (partsIn parts)) (t .entries) n
+    (all (λ e. any (λ k. eqb (k .component .number) (e .provider)) (partsIn parts)) (take n (t .entries))) i
 
 abbrev μ-loop : tie.MeasureT-loop
 μ-loop parts t n i₀ i = n - i

@@ -15,10 +15,14 @@ loop-holds : tie.Need-loop-holds Inv-loop μ-loop
 loop-holds c = rise-begin (c .pre)
 
 returns : tie.Need-returns Inv-loop μ-loop
-returns c = rise-fails (c .before .before .before .loop .inv) (c .before .before .loop-test .taken) _ (not-true _ (c .if1 .taken))
+returns c =
+    rise-fails (c .before .before .before .loop .inv) (c .before .before .loop-test .taken) _
+    (not-true _ (c .if1 .taken))
 
 loop-again : tie.Need-loop-again Inv-loop μ-loop
-loop-again c = rise-next (c .before .before .before .loop .inv) (c .before .before .loop-test .taken) _ (not-false _ (c .if1 .left))
+loop-again c =
+    rise-next (c .before .before .before .loop .inv) (c .before .before .loop-test .taken) _
+    (not-false _ (c .if1 .left))
 
 returns-2 : tie.Need-returns-2 Inv-loop μ-loop
 returns-2 c = rise-ends (c .before .loop .inv) (c .loop-test .left)

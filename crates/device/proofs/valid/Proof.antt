@@ -17,7 +17,11 @@ returns c = rw (
 returns-2 : tie.Need-returns-2
 unfolding validStored
 returns-2 c = c .lists-valid .ensures
-    ∙ rw (eq-eqb _ _ (long (c .before .before .before)), sym (c .before .before .well-formed .ensures) ∙ not-false _ (c .before .if1 .left))
+    ∙ rw (
+      eq-eqb _ _ (long (c .before .before .before)),
+      sym (c .before .before .well-formed .ensures) ∙ not-false _
+          (c .before .if1 .left),
+    )
 
 pub valid-spec : {M : Type 1} → statement M
 valid-spec =

@@ -21,7 +21,8 @@ returns-2 c = rw (
 returns-3 : tie.Need-returns-3
 unfolding formed
 returns-3 c = rw (
-  sym (c .before .before .before .before .before .apps-formed .ensures) ∙ not-false _ (c .before .before .before .before .if1 .left),
+  sym (c .before .before .before .before .before .apps-formed .ensures) ∙ not-false _
+      (c .before .before .before .before .if1 .left),
   sym (c .before .before .before .definitions-padded .ensures) ∙ not-false _ (c .before .before .if2 .left),
   sym (c .before .parts-padded .ensures) ∙ not-true _ (c .if3 .taken),
 )
@@ -29,8 +30,10 @@ returns-3 c = rw (
 returns-4 : tie.Need-returns-4
 unfolding formed
 returns-4 c = rw (
-  sym (c .before .before .before .before .before .before .before .apps-formed .ensures) ∙ not-false _ (c .before .before .before .before .before .before .if1 .left),
-  sym (c .before .before .before .before .before .definitions-padded .ensures) ∙ not-false _ (c .before .before .before .before .if2 .left),
+  sym (c .before .before .before .before .before .before .before .apps-formed .ensures) ∙ not-false _
+      (c .before .before .before .before .before .before .if1 .left),
+  sym (c .before .before .before .before .before .definitions-padded .ensures) ∙ not-false _
+      (c .before .before .before .before .if2 .left),
   sym (c .before .before .before .parts-padded .ensures) ∙ not-false _ (c .before .before .if3 .left),
   sym (c .before .resources-padded .ensures) ∙ not-true _ (c .if4 .taken),
 )
@@ -38,9 +41,12 @@ returns-4 c = rw (
 returns-5 : tie.Need-returns-5
 unfolding formed
 returns-5 c = rw (
-  sym (c .before .before .before .before .before .before .before .before .before .apps-formed .ensures) ∙ not-false _ (c .before .before .before .before .before .before .before .before .if1 .left),
-  sym (c .before .before .before .before .before .before .before .definitions-padded .ensures) ∙ not-false _ (c .before .before .before .before .before .before .if2 .left),
-  sym (c .before .before .before .before .before .parts-padded .ensures) ∙ not-false _ (c .before .before .before .before .if3 .left),
+  sym (c .before .before .before .before .before .before .before .before .before .apps-formed .ensures) ∙ not-false _
+      (c .before .before .before .before .before .before .before .before .if1 .left),
+  sym (c .before .before .before .before .before .before .before .definitions-padded .ensures) ∙ not-false _
+      (c .before .before .before .before .before .before .if2 .left),
+  sym (c .before .before .before .before .before .parts-padded .ensures) ∙ not-false _
+      (c .before .before .before .before .if3 .left),
   sym (c .before .before .before .resources-padded .ensures) ∙ not-false _ (c .before .before .if4 .left),
   sym (c .before .instances-formed .ensures) ∙ not-true _ (c .if5 .taken),
 )
@@ -50,10 +56,14 @@ unfolding formed
 returns-6 c = c .loans-padded .ensures
     ∙ rw (
       long (c .before .before .before .before .before .before .before .before .before .before .before),
-      sym (c .before .before .before .before .before .before .before .before .before .before .apps-formed .ensures) ∙ not-false _ (c .before .before .before .before .before .before .before .before .before .if1 .left),
-      sym (c .before .before .before .before .before .before .before .before .definitions-padded .ensures) ∙ not-false _ (c .before .before .before .before .before .before .before .if2 .left),
-      sym (c .before .before .before .before .before .before .parts-padded .ensures) ∙ not-false _ (c .before .before .before .before .before .if3 .left),
-      sym (c .before .before .before .before .resources-padded .ensures) ∙ not-false _ (c .before .before .before .if4 .left),
+      sym (c .before .before .before .before .before .before .before .before .before .before .apps-formed .ensures)
+          ∙ not-false _ (c .before .before .before .before .before .before .before .before .before .if1 .left),
+      sym (c .before .before .before .before .before .before .before .before .definitions-padded .ensures) ∙ not-false _
+          (c .before .before .before .before .before .before .before .if2 .left),
+      sym (c .before .before .before .before .before .before .parts-padded .ensures) ∙ not-false _
+          (c .before .before .before .before .before .if3 .left),
+      sym (c .before .before .before .before .resources-padded .ensures) ∙ not-false _
+          (c .before .before .before .if4 .left),
       sym (c .before .before .instances-formed .ensures) ∙ not-false _ (c .before .if5 .left),
     )
 

@@ -4,11 +4,14 @@ use Rattle.loans.specs.Held.{loansTable}
 use Rattle.loans.proofs.append.Statement.{statement}
 use Rattle.loans.proofs.append.Tie as tie
 
-start : (c : tie.After-within) → Bound (c .before .args .loans .entries) (c .before .args .loans .count) (c .within .result)
+start : (c : tie.After-within) → Bound (c .before .args .loans .entries) (c .before .args .loans .count)
+    (c .within .result)
 start c = bound _ (loans-long (c .before .args .loans) (c .before .good .0)) (c .within .ensures)
 
 returns : tie.Need-returns
-returns c = c .cut .ensures ∙ ap loansTable (appended-full (c .before .before .before .args .loan) (start (c .before .before)) (c .before .if1 .taken))
+returns c =
+    c .cut .ensures ∙ ap loansTable
+    (appended-full (c .before .before .before .args .loan) (start (c .before .before)) (c .before .if1 .taken))
 
 returns-2 : tie.Need-returns-2
 returns-2 c =

@@ -20,7 +20,8 @@ returns-3 : tie.Need-returns-3
 unfolding askedOf
 returns-3 c =
     let s = now (c .before .before .before .before .before .before .args .action) in
-    let e : wellFormed (recordOf s) ≡ true = cc (not-false (c .before .before .well-formed .result) (c .before .if2 .left)) in
+    let e : wellFormed (recordOf s) ≡ true = cc
+    (not-false (c .before .before .well-formed .result) (c .before .if2 .left)) in
     rw (eq-eqb _ _ (c .before .before .before .before .if1 .left), e) cc
 
 pub decode-spec : {M : Type 1} → statement M

@@ -7,7 +7,9 @@ use Rattle.loans.proofs.has_loan.Statement.{statement}
 use Rattle.loans.proofs.has_loan.Tie as tie
 
 abbrev Inv-loop : tie.InvT-loop
-Inv-loop receiver provider uri loans n i₀ i = Some (isLoan (receiverOf receiver) provider uri) (loans .entries) n (any (isLoan (receiverOf receiver) provider uri) (loansIn loans)) i
+Inv-loop receiver provider uri loans n i₀ i =
+    Some (isLoan (receiverOf receiver) provider uri) (loans .entries) n
+    (any (isLoan (receiverOf receiver) provider uri) (loansIn loans)) i
 
 abbrev μ-loop : tie.MeasureT-loop
 μ-loop receiver provider uri loans n i₀ i = n - i
@@ -16,10 +18,14 @@ loop-holds : tie.Need-loop-holds Inv-loop μ-loop
 loop-holds c = some-begin (bound _ (loans-long (c .before .args .t1) (c .before .good .0)) (c .within .ensures))
 
 returns : tie.Need-returns Inv-loop μ-loop
-returns c = some-hits (c .before .before .before .before .loop .inv) (c .before .before .before .loop-test .taken) _ (sym (c .before .is-loan .ensures) ∙ c .if1 .taken)
+returns c =
+    some-hits (c .before .before .before .before .loop .inv) (c .before .before .before .loop-test .taken) _
+    (sym (c .before .is-loan .ensures) ∙ c .if1 .taken)
 
 loop-again : tie.Need-loop-again Inv-loop μ-loop
-loop-again c = some-next (c .before .before .before .before .loop .inv) (c .before .before .before .loop-test .taken) _ (sym (c .before .is-loan .ensures) ∙ c .if1 .left)
+loop-again c =
+    some-next (c .before .before .before .before .loop .inv) (c .before .before .before .loop-test .taken) _
+    (sym (c .before .is-loan .ensures) ∙ c .if1 .left)
 
 returns-2 : tie.Need-returns-2 Inv-loop μ-loop
 returns-2 c = some-ends (c .before .loop .inv) (c .loop-test .left)

@@ -9,7 +9,9 @@ use Rattle.loans.proofs.lends.Statement.{statement}
 use Rattle.loans.proofs.lends.Tie as tie
 
 abbrev Inv-loop : tie.InvT-loop
-Inv-loop receiver provider uri operation loans n i₀ i = Some (λ x. isLoan (receiverOf receiver) provider uri x && carries (opOf operation) (x .operations)) (loans .entries) n (lentIn (loansIn loans) (receiverOf receiver) provider uri (opOf operation)) i
+Inv-loop receiver provider uri operation loans n i₀ i =
+    Some (λ x. isLoan (receiverOf receiver) provider uri x && carries (opOf operation) (x .operations)) (loans .entries)
+    n (lentIn (loansIn loans) (receiverOf receiver) provider uri (opOf operation)) i
 
 abbrev μ-loop : tie.MeasureT-loop
 μ-loop receiver provider uri operation loans n i₀ i = n - i
@@ -20,10 +22,16 @@ loop-holds c = some-begin (bound _ (loans-long (c .before .args .t1) (c .before 
 
 returns : tie.Need-returns Inv-loop μ-loop
 unfolding lentIn
-returns c = some-hits (c .before .before .before .before .before .loop .inv) (c .before .before .before .before .loop-test .taken) _ (in-words (c .before .before .is-loan .ensures) (c .before .carries .ensures) (c .if1 .taken))
+returns c =
+    some-hits (c .before .before .before .before .before .loop .inv)
+    (c .before .before .before .before .loop-test .taken) _
+    (in-words (c .before .before .is-loan .ensures) (c .before .carries .ensures) (c .if1 .taken))
 
 loop-again : tie.Need-loop-again Inv-loop μ-loop
-loop-again c = some-next (c .before .before .before .before .before .loop .inv) (c .before .before .before .before .loop-test .taken) _ (in-words (c .before .before .is-loan .ensures) (c .before .carries .ensures) (c .if1 .left))
+loop-again c =
+    some-next (c .before .before .before .before .before .loop .inv)
+    (c .before .before .before .before .loop-test .taken) _
+    (in-words (c .before .before .is-loan .ensures) (c .before .carries .ensures) (c .if1 .left))
 
 returns-2 : tie.Need-returns-2 Inv-loop μ-loop
 unfolding lentIn

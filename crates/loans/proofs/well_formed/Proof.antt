@@ -66,7 +66,9 @@ unfolding wellFormed test find forms fitting fits isOperations
 returns-14 c = rw (c .match .keys14)
 
 returns-15 : tie.Need-returns-15
-returns-15 c = sym (not-well-formed (c .before .before .before .before .before .before .before .args .r) (outside _ (c .match .rest)))
+returns-15 c =
+    sym (not-well-formed (c .before .before .before .before .before .before .before .args .r)
+    (outside _ (c .match .rest)))
 
 pub well-formed-spec : {M : Type 1} → statement M
 well-formed-spec =

@@ -13,7 +13,8 @@ returns c =
     let a = c .before .before .before .before .before .before .args in
     c .with-operations .ensures
     ∙ with-by (a .loan)
-    (λ op. carries op (a .loan .operations) || (isLoan (receiverOf (a .receiver)) (a .provider) (a .uri) (a .loan) && carries op (a .operations)))
+    (λ op. carries op (a .loan .operations) ||
+    (isLoan (receiverOf (a .receiver)) (a .provider) (a .uri) (a .loan) && carries op (a .operations)))
     (cc) (cc)
 
 pub widened-spec : {M : Type 1} → statement M

@@ -1,4 +1,5 @@
--- `all_there` meets its contract: a place is within what is left past the size exactly if the place and the size are within the whole.
+-- `all_there` meets its contract: a place is within what is left past the size exactly if the place and the size are
+-- within the whole.
 use mathlib.Core.Path.{sym}
 use Prim.Native.Nat.{_+_}
 use lib.ListN.{length}

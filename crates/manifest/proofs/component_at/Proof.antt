@@ -1,4 +1,5 @@
--- `component_at` meets its contract: where the bytes are all there it is the component from the place on, and else zeros.
+-- `component_at` meets its contract: where the bytes are all there it is the component from the place on, and else
+-- zeros.
 use denote.Ref.{now}
 use borrow.Author.Needs.{needs}
 use Rattle.manifest.specs.Layout.{componentAt}
@@ -18,7 +19,8 @@ component-from-requires c κs =
 returns : tie.Need-returns
 returns c =
     let a = c .before .before .before .before .args in
-    entry-there (a .at) 8 (now (a .s)) (c .before .before .all-there .ensures) zeroComponent componentAt (c .before .if1 .taken) (c .component-from .ensures)
+    entry-there (a .at) 8 (now (a .s)) (c .before .before .all-there .ensures) zeroComponent componentAt
+    (c .before .if1 .taken) (c .component-from .ensures)
 
 returns-2 : tie.Need-returns-2
 returns-2 c =

@@ -11,7 +11,9 @@ use Rattle.manifest.proofs.components_rise.Statement.{statement}
 use Rattle.manifest.proofs.components_rise.Tie as tie
 
 abbrev Inv-loop : tie.InvT-loop
-Inv-loop s from count i₀ left₀ low₀ i left low = (i + 8 * left ≡ from + 8 * count) × (componentsRise 0 (entries (componentAt s) 8 from count) ≡ componentsRise low (entries (componentAt s) 8 i left))
+Inv-loop s from count i₀ left₀ low₀ i left low =
+    (i + 8 * left ≡ from + 8 * count)
+    × (componentsRise 0 (entries (componentAt s) 8 from count) ≡ componentsRise low (entries (componentAt s) 8 i left))
 
 abbrev μ-loop : tie.MeasureT-loop
 μ-loop s from count i₀ left₀ low₀ i left low = left
@@ -27,7 +29,9 @@ good-component-requires c κs = search needs
 
 returns : tie.Need-returns Inv-loop μ-loop
 returns c =
-    sym (c .before .before .before .before .before .loop .inv .1 ∙ rises-not _ 8 _ goodComponent _ _ _ (c .before .before .before .before .loop-test .taken) (c .before .before .before .component-from .ensures) refl (c .before .good-component .ensures) (not-true _ (c .if1 .taken)))
+    sym (c .before .before .before .before .before .loop .inv .1 ∙ rises-not _ 8 _ goodComponent _ _ _
+    (c .before .before .before .before .loop-test .taken) (c .before .before .before .component-from .ensures) refl
+    (c .before .good-component .ensures) (not-true _ (c .if1 .taken)))
 
 add-i : tie.Need-add-i Inv-loop μ-loop
 add-i c = omega arith
@@ -39,8 +43,12 @@ loop-less : tie.Need-loop-less Inv-loop μ-loop
 loop-less c = omega arith
 
 loop-again : tie.Need-loop-again Inv-loop μ-loop
-loop-again c =
-    (omega arith, c .before .before .before .before .before .loop .inv .1 ∙ rises-on _ 8 _ goodComponent _ _ _ (c .before .before .before .before .loop-test .taken) (c .before .before .before .component-from .ensures) refl (c .before .good-component .ensures) (not-false _ (c .if1 .left)))
+loop-again c = (
+  omega arith,
+  c .before .before .before .before .before .loop .inv .1 ∙ rises-on _ 8 _ goodComponent _ _ _
+      (c .before .before .before .before .loop-test .taken) (c .before .before .before .component-from .ensures) refl
+      (c .before .good-component .ensures) (not-false _ (c .if1 .left)),
+)
 
 returns-2 : tie.Need-returns-2 Inv-loop μ-loop
 returns-2 c = sym (c .before .loop .inv .1 ∙ rises-all _ 8 _ goodComponent _ _ _ (c .loop-test .left))

@@ -12,7 +12,8 @@ use Rattle.manifest.proofs.count_at.Tie as tie
 returns : tie.Need-returns
 returns c =
     let a = c .before .before .args in
-    count-none (a .size) (a .most) (now (a .s)) (a .at) (counted-short (a .size) (a .most) (now (a .s)) (a .at) (omega arith))
+    count-none (a .size) (a .most) (now (a .s)) (a .at)
+    (counted-short (a .size) (a .most) (now (a .s)) (a .at) (omega arith))
 
 shared-slice-read-wide : tie.Need-shared-slice-read-wide
 shared-slice-read-wide c = search needs
@@ -23,7 +24,8 @@ wide-requires c κs = search needs
 returns-2 : tie.Need-returns-2
 returns-2 c =
     let a = c .before .before .before .before .before .args in
-    count-none (a .size) (a .most) (now (a .s)) (a .at) (counted-many (a .size) (a .most) (now (a .s)) (a .at) (omega arith))
+    count-none (a .size) (a .most) (now (a .s)) (a .at)
+    (counted-many (a .size) (a .most) (now (a .s)) (a .at) (omega arith))
 
 add-room : tie.Need-add-room
 add-room c = search needs
@@ -34,13 +36,18 @@ sub-room c = search needs
 mul-if3 : tie.Need-mul-if3
 mul-if3 c =
     let a = c .before .before .before .before .before .args in
-    omega (arith, mul-le-mul-right (c .before .wide .result) (c .before .before .before .before .before .pre), c .before .before .shared-slice-known2 .given (a .at))
+    omega (
+      arith,
+      mul-le-mul-right (c .before .wide .result) (c .before .before .before .before .before .pre),
+      c .before .before .shared-slice-known2 .given (a .at),
+    )
 
 returns-3 : tie.Need-returns-3
 returns-3 c =
     let a = c .before .before .before .before .before .before .args in
     let e = ap (λ (k : ℕ). a .size * k) (c .before .before .wide .ensures) in
-    count-none (a .size) (a .most) (now (a .s)) (a .at) (counted-short (a .size) (a .most) (now (a .s)) (a .at) (omega arith))
+    count-none (a .size) (a .most) (now (a .s)) (a .at)
+    (counted-short (a .size) (a .most) (now (a .s)) (a .at) (omega arith))
 
 returns-4 : tie.Need-returns-4
 returns-4 c =

@@ -18,7 +18,8 @@ define-from-requires c κs =
 returns : tie.Need-returns
 returns c =
     let a = c .before .before .before .before .args in
-    entry-there (a .at) 3 (now (a .s)) (c .before .before .all-there .ensures) zeroDefine defineAt (c .before .if1 .taken) (c .define-from .ensures)
+    entry-there (a .at) 3 (now (a .s)) (c .before .before .all-there .ensures) zeroDefine defineAt
+    (c .before .if1 .taken) (c .define-from .ensures)
 
 returns-2 : tie.Need-returns-2
 returns-2 c =

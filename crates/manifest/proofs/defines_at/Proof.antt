@@ -1,4 +1,5 @@
--- `defines_at` meets its contract: the count is good, and the loop over the entries answers what the definition asks of them.
+-- `defines_at` meets its contract: the count is good, and the loop over the entries answers what the definition asks of
+-- them.
 use mathlib.Core.Bool.{Bool}
 use native.Mathlib.Omega.{arith}
 use Prim.Native.Nat.{ℕ, _+_}
@@ -11,7 +12,8 @@ use Rattle.manifest.proofs.defines_at.Statement.{statement}
 use Rattle.manifest.proofs.defines_at.Tie as tie
 
 -- what the count says, where the loop's answer is asked for
-known : (c : tie.After-known-told) → Counted 3 16 (now (c .before .before .before .before .before .args .s)) (c .before .before .before .before .before .args .at) (c .before .n .given .0 .0)
+known : (c : tie.After-known-told) → Counted 3 16 (now (c .before .before .before .before .before .args .s))
+    (c .before .before .before .before .before .args .at) (c .before .n .given .0 .0)
 known c =
     let a = c .before .before .before .before .before .args in
     count-told 3 16 (now (a .s)) (a .at) (c .before .before .before .count-at .ensures) (c .before .n .given .1)
@@ -49,18 +51,21 @@ returns : tie.Need-returns
 unfolding rise
 returns c =
     let a = c .before .before .before .before .before .before .before .args in
-    end-good 3 16 (now (a .s)) (a .at) (rise (c .before .before)) (known (c .before .before)) (c .before .defines-rise .ensures) (c .if1 .taken)
+    end-good 3 16 (now (a .s)) (a .at) (rise (c .before .before)) (known (c .before .before))
+    (c .before .defines-rise .ensures) (c .if1 .taken)
 
 returns-2 : tie.Need-returns-2
 unfolding rise
 returns-2 c =
     let a = c .before .before .before .before .before .before .before .args in
-    end-bad 3 16 (now (a .s)) (a .at) (rise (c .before .before)) (known (c .before .before)) (c .before .defines-rise .ensures) (c .if1 .left)
+    end-bad 3 16 (now (a .s)) (a .at) (rise (c .before .before)) (known (c .before .before))
+    (c .before .defines-rise .ensures) (c .if1 .left)
 
 returns-3 : tie.Need-returns-3
 returns-3 c =
     let a = c .before .before .before .before .args in
-    end-not 3 16 (now (a .s)) (a .at) (c .before .before .count-at .ensures) (c .enum-told .given .1) (definesRise 0 (section defineAt 3 (now (a .s)) (a .at)))
+    end-not 3 16 (now (a .s)) (a .at) (c .before .before .count-at .ensures) (c .enum-told .given .1)
+    (definesRise 0 (section defineAt 3 (now (a .s)) (a .at)))
 
 pub defines-at-spec : {M : Type 1} → statement M
 defines-at-spec =

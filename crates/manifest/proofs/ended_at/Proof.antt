@@ -1,4 +1,5 @@
--- `ended_at` meets its contract: its test is the one of the definition, and where it holds the sections are those of the bytes.
+-- `ended_at` meets its contract: its test is the one of the definition, and where it holds the sections are those of
+-- the bytes.
 use denote.Ref.{now}
 use lib.ListN.{length}
 use lib.Dec.{eqb, leb}

@@ -10,7 +10,10 @@ use Rattle.manifest.proofs.has_provider.Statement.{statement}
 use Rattle.manifest.proofs.has_provider.Tie as tie
 
 abbrev Inv-loop : tie.InvT-loop
-Inv-loop s from count p i₀ left₀ i left = (i + 8 * left ≡ from + 8 * count) × (any (isProviderOf p) (entries (componentAt s) 8 from count) ≡ any (isProviderOf p) (entries (componentAt s) 8 i left))
+Inv-loop s from count p i₀ left₀ i left =
+    (i + 8 * left ≡ from + 8 * count)
+    × (any (isProviderOf p) (entries (componentAt s) 8 from count) ≡ any (isProviderOf p)
+    (entries (componentAt s) 8 i left))
 
 abbrev μ-loop : tie.MeasureT-loop
 μ-loop s from count p i₀ left₀ i left = left
@@ -26,7 +29,10 @@ is-provider-of-requires c κs = search needs
 
 returns : tie.Need-returns Inv-loop μ-loop
 returns c =
-    sym (c .before .before .before .before .loop .inv .1 ∙ any-here _ 8 (isProviderOf (c .before .before .before .before .before .before .args .p)) _ _ (c .before .before .before .loop-test .taken) (c .before .before .component-from .ensures) (c .before .is-provider-of .ensures) (c .if1 .taken))
+    sym (c .before .before .before .before .loop .inv .1 ∙ any-here _ 8
+    (isProviderOf (c .before .before .before .before .before .before .args .p)) _ _
+    (c .before .before .before .loop-test .taken) (c .before .before .component-from .ensures)
+    (c .before .is-provider-of .ensures) (c .if1 .taken))
 
 add-i : tie.Need-add-i Inv-loop μ-loop
 add-i c = omega arith
@@ -38,11 +44,18 @@ loop-less : tie.Need-loop-less Inv-loop μ-loop
 loop-less c = omega arith
 
 loop-again : tie.Need-loop-again Inv-loop μ-loop
-loop-again c =
-    (omega arith, c .before .before .before .before .loop .inv .1 ∙ any-on _ 8 (isProviderOf (c .before .before .before .before .before .before .args .p)) _ _ (c .before .before .before .loop-test .taken) (c .before .before .component-from .ensures) (c .before .is-provider-of .ensures) (c .if1 .left))
+loop-again c = (
+  omega arith,
+  c .before .before .before .before .loop .inv .1 ∙ any-on _ 8
+      (isProviderOf (c .before .before .before .before .before .before .args .p)) _ _
+      (c .before .before .before .loop-test .taken) (c .before .before .component-from .ensures)
+      (c .before .is-provider-of .ensures) (c .if1 .left),
+)
 
 returns-2 : tie.Need-returns-2 Inv-loop μ-loop
-returns-2 c = sym (c .before .loop .inv .1 ∙ any-none _ 8 (isProviderOf (c .before .before .before .args .p)) _ _ (c .loop-test .left))
+returns-2 c =
+    sym (c .before .loop .inv .1 ∙ any-none _ 8 (isProviderOf (c .before .before .before .args .p)) _ _
+    (c .loop-test .left))
 
 pub has-provider-spec : {M : Type 1} → statement M
 has-provider-spec =

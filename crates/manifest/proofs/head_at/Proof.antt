@@ -12,7 +12,8 @@ use Rattle.manifest.proofs.Places.{fits-so, head-short, head-zero, head
 use Rattle.manifest.proofs.head_at.Statement.{statement}
 use Rattle.manifest.proofs.head_at.Tie as tie
 
-there : (c : tie.Else1) → leb (c .before .before .before .args .at + 6) (length (now (c .before .before .before .args .s))) ≡ true
+there : (c : tie.Else1) → leb (c .before .before .before .args .at + 6)
+    (length (now (c .before .before .before .args .s))) ≡ true
 there c = sym (c .before .all-there .ensures) ∙ not-false _ (c .if1 .left)
 
 room : (c : tie.Else1) → c .before .before .before .args .at + 6 ≤ length (now (c .before .before .before .args .s))
@@ -43,13 +44,15 @@ add-t9 c = omega (arith, room (c .before .before .before))
 returns-2 : tie.Need-returns-2
 returns-2 c =
     let a = c .before .before .before .before .before .before .args in
-    let t = ap₂ (λ (x y : ℕ). ltb 0 x && ltb 0 y) (c .before .before .u16-from .ensures) (c .before .u32-from .ensures) in
+    let t = ap₂ (λ (x y : ℕ). ltb 0 x && ltb 0 y) (c .before .before .u16-from .ensures) (c .before .u32-from .ensures)
+    in
     head-good (now (a .s)) (a .at) (there (c .before .before .before)) (sym t ∙ c .if2 .taken)
 
 returns-3 : tie.Need-returns-3
 returns-3 c =
     let a = c .before .before .before .before .before .before .args in
-    let t = ap₂ (λ (x y : ℕ). ltb 0 x && ltb 0 y) (c .before .before .u16-from .ensures) (c .before .u32-from .ensures) in
+    let t = ap₂ (λ (x y : ℕ). ltb 0 x && ltb 0 y) (c .before .before .u16-from .ensures) (c .before .u32-from .ensures)
+    in
     head-zero (now (a .s)) (a .at) (sym t ∙ c .if2 .left)
 
 pub head-at-spec : {M : Type 1} → statement M

@@ -16,7 +16,8 @@ returns c =
     let a = c .before .before .args in
     let t = and-parts (eqb (a .p) (a .last)) (ltb 0 (a .last)) (c .if1 .taken) in
     let same = eqb-true (a .p) (a .last) (t .0) in
-    sym (ap (λ (q : ℕ). any (isProviderOf q) (entries (componentAt (now (a .s))) 8 (a .from) (a .count))) same ∙ c .before .before .pre .1 (ltb-true 0 (a .last) (t .1)))
+    sym (ap (λ (q : ℕ). any (isProviderOf q) (entries (componentAt (now (a .s))) 8 (a .from) (a .count))) same
+    ∙ c .before .before .pre .1 (ltb-true 0 (a .last) (t .1)))
 
 has-provider-requires : tie.Need-has-provider-requires
 has-provider-requires c κs = search needs

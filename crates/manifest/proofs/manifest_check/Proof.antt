@@ -17,11 +17,13 @@ enum-told-2 c = search needs
 
 returns : tie.Need-returns
 returns c =
-    number-is (now (c .before .before .before .before .args .bytes)) 0 (c .before .before .check .ensures) (c .enum-told .given .1) refl
+    number-is (now (c .before .before .before .before .args .bytes)) 0 (c .before .before .check .ensures)
+    (c .enum-told .given .1) refl
 
 returns-2 : tie.Need-returns-2
 returns-2 c =
-    number-is (now (c .before .before .before .before .args .bytes)) 3 (c .before .before .check .ensures) (c .enum-told2 .given .1) refl
+    number-is (now (c .before .before .before .before .args .bytes)) 3 (c .before .before .check .ensures)
+    (c .enum-told2 .given .1) refl
 
 pub manifest-check-spec : {M : Type 1} → statement M
 manifest-check-spec = tie.close (tie.spec check-requires enum-told enum-told-2 returns returns-2)

@@ -36,7 +36,9 @@ rest-at-requires c κs = search needs
 returns-4 : tie.Need-returns-4
 returns-4 c =
     let a = c .before .before .before .before .before .args in
-    c .rest-at .ensures ∙ sym (part-3 (now (a .s)) (a .at) (a .part) (c .before .before .before .if1 .left) (c .before .before .if2 .left) (c .before .if3 .left))
+    c .rest-at .ensures ∙ sym
+    (part-3 (now (a .s)) (a .at) (a .part) (c .before .before .before .if1 .left) (c .before .before .if2 .left)
+    (c .before .if3 .left))
 
 pub part-at-spec : {M : Type 1} → statement M
 part-at-spec =

@@ -18,7 +18,8 @@ resource-from-requires c κs =
 returns : tie.Need-returns
 returns c =
     let a = c .before .before .before .before .args in
-    entry-there (a .at) 8 (now (a .s)) (c .before .before .all-there .ensures) zeroResource resourceAt (c .before .if1 .taken) (c .resource-from .ensures)
+    entry-there (a .at) 8 (now (a .s)) (c .before .before .all-there .ensures) zeroResource resourceAt
+    (c .before .if1 .taken) (c .resource-from .ensures)
 
 returns-2 : tie.Need-returns-2
 returns-2 c =

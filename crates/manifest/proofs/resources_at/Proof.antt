@@ -1,4 +1,5 @@
--- `resources_at` meets its contract: the count is good, and the loop over the entries answers what the definition asks of them.
+-- `resources_at` meets its contract: the count is good, and the loop over the entries answers what the definition asks
+-- of them.
 use native.Mathlib.Omega.{arith}
 use Prim.Native.Nat.{ℕ, _+_}
 use mathlib.Core.Bool.{Bool}
@@ -12,17 +13,21 @@ use Rattle.manifest.proofs.resources_at.Statement.{statement}
 use Rattle.manifest.proofs.resources_at.Tie as tie
 
 -- what the count says, where the loop's answer is asked for
-known : (c : tie.After-wide) → Counted 8 32 (now (c .before .before .before .before .before .before .before .args .s)) (c .before .before .before .before .before .before .before .args .at) (c .before .before .before .n .given .0 .0)
+known : (c : tie.After-wide) → Counted 8 32 (now (c .before .before .before .before .before .before .before .args .s))
+    (c .before .before .before .before .before .before .before .args .at) (c .before .before .before .n .given .0 .0)
 known c =
     let a = c .before .before .before .before .before .before .before .args in
-    count-told 8 32 (now (a .s)) (a .at) (c .before .before .before .before .before .count-at .ensures) (c .before .before .before .n .given .1)
+    count-told 8 32 (now (a .s)) (a .at) (c .before .before .before .before .before .count-at .ensures)
+    (c .before .before .before .n .given .1)
 
 rise : (c : tie.After-wide) → ℕ → Bool
 rise c k =
     let a = c .before .before .before .before .before .before .before .args in
-    resourcesRise (section componentAt 8 (now (a .s)) (a .components)) 0 (entries (resourceAt (now (a .s))) 8 (a .at + 1) k)
+    resourcesRise (section componentAt 8 (now (a .s)) (a .components)) 0
+    (entries (resourceAt (now (a .s))) 8 (a .at + 1) k)
 
-answer : (c : tie.After-resources-rise) → c .resources-rise .result ≡ rise (c .before) (c .before .before .before .before .n .given .0 .0)
+answer : (c : tie.After-resources-rise) → c .resources-rise .result ≡ rise (c .before)
+    (c .before .before .before .before .n .given .0 .0)
 unfolding rise
 answer c = rw (← c .before .wide .ensures) (c .resources-rise .ensures)
 
@@ -63,18 +68,22 @@ returns : tie.Need-returns
 unfolding rise
 returns c =
     let a = c .before .before .before .before .before .before .before .before .before .args in
-    end-good 8 32 (now (a .s)) (a .at) (rise (c .before .before)) (known (c .before .before)) (answer (c .before)) (c .if1 .taken)
+    end-good 8 32 (now (a .s)) (a .at) (rise (c .before .before)) (known (c .before .before)) (answer (c .before))
+    (c .if1 .taken)
 
 returns-2 : tie.Need-returns-2
 unfolding rise
 returns-2 c =
     let a = c .before .before .before .before .before .before .before .before .before .args in
-    end-bad 8 32 (now (a .s)) (a .at) (rise (c .before .before)) (known (c .before .before)) (answer (c .before)) (c .if1 .left)
+    end-bad 8 32 (now (a .s)) (a .at) (rise (c .before .before)) (known (c .before .before)) (answer (c .before))
+    (c .if1 .left)
 
 returns-3 : tie.Need-returns-3
 returns-3 c =
     let a = c .before .before .before .before .args in
-    end-not 8 32 (now (a .s)) (a .at) (c .before .before .count-at .ensures) (c .enum-told .given .1) (resourcesRise (section componentAt 8 (now (a .s)) (a .components)) 0 (section resourceAt 8 (now (a .s)) (a .at)))
+    end-not 8 32 (now (a .s)) (a .at) (c .before .before .count-at .ensures) (c .enum-told .given .1)
+    (resourcesRise (section componentAt 8 (now (a .s)) (a .components)) 0
+    (section resourceAt 8 (now (a .s)) (a .at)))
 
 pub resources-at-spec : {M : Type 1} → statement M
 resources-at-spec =

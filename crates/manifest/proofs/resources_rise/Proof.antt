@@ -40,8 +40,12 @@ returns : tie.Need-returns Inv-loop μ-loop
 returns c =
     let a = c .before .before .before .before .before .before .before .before .args in
     let read = c .before .before .before .before in
-    let told = ap (λ (y : Bool). ltb 0 (read .resource-from .result .uri) && y) (c .before .before .before .knows-provider .ensures) in
-    sym (c .before .before .before .before .before .before .loop .inv .1 ∙ rises-not (resourceAt (now (a .s))) 8 resourceKey (goodResource (entries (componentAt (now (a .s))) 8 (a .components) (a .n))) _ _ _ (c .before .before .before .before .before .loop-test .taken) (read .resource-from .ensures) (c .before .before .resource-key .ensures) told (not-true _ (c .if1 .taken)))
+    let told = ap (λ (y : Bool). ltb 0 (read .resource-from .result .uri) && y)
+    (c .before .before .before .knows-provider .ensures) in
+    sym (c .before .before .before .before .before .before .loop .inv .1 ∙ rises-not (resourceAt (now (a .s))) 8
+    resourceKey (goodResource (entries (componentAt (now (a .s))) 8 (a .components) (a .n))) _ _ _
+    (c .before .before .before .before .before .loop-test .taken) (read .resource-from .ensures)
+    (c .before .before .resource-key .ensures) told (not-true _ (c .if1 .taken)))
 
 add-i : tie.Need-add-i Inv-loop μ-loop
 add-i c = omega arith
@@ -56,16 +60,27 @@ loop-again : tie.Need-loop-again Inv-loop μ-loop
 loop-again c =
     let a = c .before .before .before .before .before .before .before .before .args in
     let read = c .before .before .before .before in
-    let told = ap (λ (y : Bool). ltb 0 (read .resource-from .result .uri) && y) (c .before .before .before .knows-provider .ensures) in
+    let told = ap (λ (y : Bool). ltb 0 (read .resource-from .result .uri) && y)
+    (c .before .before .before .knows-provider .ensures) in
     let ok = not-false _ (c .if1 .left) in
     let known = c .before .before .before .knows-provider in
-    let parts = and-parts (ltb (c .before .before .before .before .before .before .loop .low) (c .before .before .resource-key .result)) (ltb 0 (read .resource-from .result .uri) && known .result) ok in
-    (omega arith, c .before .before .before .before .before .before .loop .inv .1 ∙ rises-on (resourceAt (now (a .s))) 8 resourceKey (goodResource (entries (componentAt (now (a .s))) 8 (a .components) (a .n))) _ _ _ (c .before .before .before .before .before .loop-test .taken) (read .resource-from .ensures) (c .before .before .resource-key .ensures) told ok, λ _. sym (known .ensures) ∙ and-parts (ltb 0 (read .resource-from .result .uri)) (known .result) (parts .1) .1)
+    let parts = and-parts
+    (ltb (c .before .before .before .before .before .before .loop .low) (c .before .before .resource-key .result))
+    (ltb 0 (read .resource-from .result .uri) && known .result) ok in (
+      omega arith,
+      c .before .before .before .before .before .before .loop .inv .1 ∙ rises-on (resourceAt (now (a .s))) 8
+          resourceKey (goodResource (entries (componentAt (now (a .s))) 8 (a .components) (a .n))) _ _ _
+          (c .before .before .before .before .before .loop-test .taken) (read .resource-from .ensures)
+          (c .before .before .resource-key .ensures) told ok,
+      λ _. sym (known .ensures) ∙ and-parts
+          (ltb 0 (read .resource-from .result .uri)) (known .result) (parts .1) .1,
+    )
 
 returns-2 : tie.Need-returns-2 Inv-loop μ-loop
 returns-2 c =
     let a = c .before .before .before .args in
-    sym (c .before .loop .inv .1 ∙ rises-all (resourceAt (now (a .s))) 8 resourceKey (goodResource (entries (componentAt (now (a .s))) 8 (a .components) (a .n))) _ _ _ (c .loop-test .left))
+    sym (c .before .loop .inv .1 ∙ rises-all (resourceAt (now (a .s))) 8 resourceKey
+    (goodResource (entries (componentAt (now (a .s))) 8 (a .components) (a .n))) _ _ _ (c .loop-test .left))
 
 pub resources-rise-spec : {M : Type 1} → statement M
 resources-rise-spec =

@@ -26,7 +26,8 @@ enum-told c = search needs
 returns : tie.Need-returns
 returns c =
     let a = c .before .before .before .before .before .before .args in
-    rest-is (now (a .s)) (a .at) (c .before .before .before .before .components-at .ensures) (c .before .before .next .given .1)
+    rest-is (now (a .s)) (a .at) (c .before .before .before .before .components-at .ensures)
+    (c .before .before .next .given .1)
     (c .resources-at .ensures)
 
 returns-2 : tie.Need-returns-2

@@ -21,7 +21,8 @@ wide16-requires-2 : tie.Need-wide16-requires-2
 wide16-requires-2 c κs = search needs
 
 mul-result : tie.Need-mul-result
-mul-result c = omega (arith, c .before .shared-slice-known3 .given (c .before .before .before .before .before .args .at + 1))
+mul-result c =
+    omega (arith, c .before .shared-slice-known3 .given (c .before .before .before .before .before .args .at + 1))
 
 add-result : tie.Need-add-result
 add-result c =

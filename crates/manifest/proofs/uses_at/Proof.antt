@@ -1,4 +1,5 @@
--- `uses_at` meets its contract: the count is good, and the loop over the entries answers what the definition asks of them.
+-- `uses_at` meets its contract: the count is good, and the loop over the entries answers what the definition asks of
+-- them.
 use mathlib.Core.Bool.{Bool}
 use native.Mathlib.Omega.{arith}
 use Prim.Native.Nat.{ℕ, _+_}
@@ -11,7 +12,8 @@ use Rattle.manifest.proofs.uses_at.Statement.{statement}
 use Rattle.manifest.proofs.uses_at.Tie as tie
 
 -- what the count says, where the loop's answer is asked for
-known : (c : tie.After-known-told) → Counted 1 32 (now (c .before .before .before .before .before .args .s)) (c .before .before .before .before .before .args .at) (c .before .n .given .0 .0)
+known : (c : tie.After-known-told) → Counted 1 32 (now (c .before .before .before .before .before .args .s))
+    (c .before .before .before .before .before .args .at) (c .before .n .given .0 .0)
 known c =
     let a = c .before .before .before .before .before .args in
     count-told 1 32 (now (a .s)) (a .at) (c .before .before .before .count-at .ensures) (c .before .n .given .1)
@@ -49,18 +51,21 @@ returns : tie.Need-returns
 unfolding rise
 returns c =
     let a = c .before .before .before .before .before .before .before .args in
-    end-good 1 32 (now (a .s)) (a .at) (rise (c .before .before)) (known (c .before .before)) (c .before .uses-rise .ensures) (c .if1 .taken)
+    end-good 1 32 (now (a .s)) (a .at) (rise (c .before .before)) (known (c .before .before))
+    (c .before .uses-rise .ensures) (c .if1 .taken)
 
 returns-2 : tie.Need-returns-2
 unfolding rise
 returns-2 c =
     let a = c .before .before .before .before .before .before .before .args in
-    end-bad 1 32 (now (a .s)) (a .at) (rise (c .before .before)) (known (c .before .before)) (c .before .uses-rise .ensures) (c .if1 .left)
+    end-bad 1 32 (now (a .s)) (a .at) (rise (c .before .before)) (known (c .before .before))
+    (c .before .uses-rise .ensures) (c .if1 .left)
 
 returns-3 : tie.Need-returns-3
 returns-3 c =
     let a = c .before .before .before .before .args in
-    end-not 1 32 (now (a .s)) (a .at) (c .before .before .count-at .ensures) (c .enum-told .given .1) (usesRise 0 (section u8At 1 (now (a .s)) (a .at)))
+    end-not 1 32 (now (a .s)) (a .at) (c .before .before .count-at .ensures) (c .enum-told .given .1)
+    (usesRise 0 (section u8At 1 (now (a .s)) (a .at)))
 
 pub uses-at-spec : {M : Type 1} → statement M
 uses-at-spec =

@@ -10,7 +10,9 @@ use Rattle.manifest.proofs.uses_rise.Statement.{statement}
 use Rattle.manifest.proofs.uses_rise.Tie as tie
 
 abbrev Inv-loop : tie.InvT-loop
-Inv-loop s from count i₀ left₀ low₀ i left low = (i + 1 * left ≡ from + 1 * count) × (usesRise 0 (entries (u8At s) 1 from count) ≡ usesRise low (entries (u8At s) 1 i left))
+Inv-loop s from count i₀ left₀ low₀ i left low =
+    (i + 1 * left ≡ from + 1 * count)
+    × (usesRise 0 (entries (u8At s) 1 from count) ≡ usesRise low (entries (u8At s) 1 i left))
 
 abbrev μ-loop : tie.MeasureT-loop
 μ-loop s from count i₀ left₀ low₀ i left low = left
@@ -22,7 +24,9 @@ shared-slice-read-p : tie.Need-shared-slice-read-p Inv-loop μ-loop
 shared-slice-read-p c = omega arith
 
 returns : tie.Need-returns Inv-loop μ-loop
-returns c = sym (c .before .before .before .loop .inv .1 ∙ rises-not _ 1 _ goodUse _ _ _ (c .before .before .loop-test .taken) refl refl refl (not-true _ (c .if1 .taken)))
+returns c =
+    sym (c .before .before .before .loop .inv .1 ∙ rises-not _ 1 _ goodUse _ _ _ (c .before .before .loop-test .taken)
+    refl refl refl (not-true _ (c .if1 .taken)))
 
 add-i : tie.Need-add-i Inv-loop μ-loop
 add-i c = omega arith
@@ -34,7 +38,11 @@ loop-less : tie.Need-loop-less Inv-loop μ-loop
 loop-less c = omega arith
 
 loop-again : tie.Need-loop-again Inv-loop μ-loop
-loop-again c = (omega arith, c .before .before .before .loop .inv .1 ∙ rises-on _ 1 _ goodUse _ _ _ (c .before .before .loop-test .taken) refl refl refl (not-false _ (c .if1 .left)))
+loop-again c = (
+  omega arith,
+  c .before .before .before .loop .inv .1 ∙ rises-on _ 1 _ goodUse _ _ _
+      (c .before .before .loop-test .taken) refl refl refl (not-false _ (c .if1 .left)),
+)
 
 returns-2 : tie.Need-returns-2 Inv-loop μ-loop
 returns-2 c = sym (c .before .loop .inv .1 ∙ rises-all _ 1 _ goodUse _ _ _ (c .loop-test .left))

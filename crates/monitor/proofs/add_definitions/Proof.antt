@@ -9,7 +9,8 @@ use Rattle.monitor.proofs.add_definitions.Tie as tie
 abbrev Inv-loop : tie.InvT-loop
 Inv-loop app s t₀ at₀ left₀ t at left =
     (at + 3 * left ≡ at₀ + 3 * left₀)
-    × (appendAll (λ t x. appendDefinition t (record { app = app; define = x })) t₀ (entries (defineAt s) 3 at₀ left₀) ≡ appendAll (λ t x. appendDefinition t (record { app = app; define = x })) t (entries (defineAt s) 3 at left))
+    × (appendAll (λ t x. appendDefinition t (record { app = app; define = x })) t₀ (entries (defineAt s) 3 at₀ left₀)
+    ≡ appendAll (λ t x. appendDefinition t (record { app = app; define = x })) t (entries (defineAt s) 3 at left))
 
 abbrev μ-loop : tie.MeasureT-loop
 μ-loop app s t₀ at₀ left₀ t at left = left
@@ -19,15 +20,19 @@ loop-again c =
     let l = c .before .before .before .loop in
     let s = c .before .before .before .before .before .args in (
       omega arith,
-      l .inv .1 ∙ section-next (λ t x. appendDefinition t (record { app = s .app; define = x })) (defineAt (s .s .now)) 3 (l .t) _ (l .at) (l .left) _
-          (c .before .before .loop-test .taken) (c .before .define-at .ensures ∙ entry-there zeroDefine defineAt 3 (s .s .now) (l .at) (omega arith)) (c .append-definition .ensures),
+      l .inv .1 ∙ section-next (λ t x. appendDefinition t (record { app = s .app; define = x })) (defineAt (s .s .now))
+          3 (l .t) _ (l .at) (l .left) _
+          (c .before .before .loop-test .taken)
+          (c .before .define-at .ensures ∙ entry-there zeroDefine defineAt 3 (s .s .now) (l .at) (omega arith))
+          (c .append-definition .ensures),
     )
 
 returns : tie.Need-returns Inv-loop μ-loop
 returns c =
     let l = c .before .loop in
     let s = c .before .before .before .args in
-    sym (l .inv .1 ∙ section-ends (λ t x. appendDefinition t (record { app = s .app; define = x })) (defineAt (s .s .now)) 3 (l .t) (l .at) (l .left) (omega arith))
+    sym (l .inv .1 ∙ section-ends (λ t x. appendDefinition t (record { app = s .app; define = x }))
+    (defineAt (s .s .now)) 3 (l .t) (l .at) (l .left) (omega arith))
 
 pub add-definitions-spec : {M : Type 1} → statement M
 add-definitions-spec =

@@ -9,7 +9,8 @@ use Rattle.monitor.proofs.add_parts.Tie as tie
 abbrev Inv-loop : tie.InvT-loop
 Inv-loop app s t₀ at₀ left₀ t at left =
     (at + 8 * left ≡ at₀ + 8 * left₀)
-    × (appendAll (λ t x. appendPart t (record { app = app; component = x })) t₀ (entries (componentAt s) 8 at₀ left₀) ≡ appendAll (λ t x. appendPart t (record { app = app; component = x })) t (entries (componentAt s) 8 at left))
+    × (appendAll (λ t x. appendPart t (record { app = app; component = x })) t₀ (entries (componentAt s) 8 at₀ left₀)
+    ≡ appendAll (λ t x. appendPart t (record { app = app; component = x })) t (entries (componentAt s) 8 at left))
 
 abbrev μ-loop : tie.MeasureT-loop
 μ-loop app s t₀ at₀ left₀ t at left = left
@@ -19,15 +20,19 @@ loop-again c =
     let l = c .before .before .before .loop in
     let s = c .before .before .before .before .before .args in (
       omega arith,
-      l .inv .1 ∙ section-next (λ t x. appendPart t (record { app = s .app; component = x })) (componentAt (s .s .now)) 8 (l .t) _ (l .at) (l .left) _
-          (c .before .before .loop-test .taken) (c .before .component-at .ensures ∙ entry-there zeroComponent componentAt 8 (s .s .now) (l .at) (omega arith)) (c .append-part .ensures),
+      l .inv .1 ∙ section-next (λ t x. appendPart t (record { app = s .app; component = x })) (componentAt (s .s .now))
+          8 (l .t) _ (l .at) (l .left) _
+          (c .before .before .loop-test .taken)
+          (c .before .component-at .ensures ∙ entry-there zeroComponent componentAt 8 (s .s .now) (l .at)
+          (omega arith)) (c .append-part .ensures),
     )
 
 returns : tie.Need-returns Inv-loop μ-loop
 returns c =
     let l = c .before .loop in
     let s = c .before .before .before .args in
-    sym (l .inv .1 ∙ section-ends (λ t x. appendPart t (record { app = s .app; component = x })) (componentAt (s .s .now)) 8 (l .t) (l .at) (l .left) (omega arith))
+    sym (l .inv .1 ∙ section-ends (λ t x. appendPart t (record { app = s .app; component = x }))
+    (componentAt (s .s .now)) 8 (l .t) (l .at) (l .left) (omega arith))
 
 pub add-parts-spec : {M : Type 1} → statement M
 add-parts-spec =

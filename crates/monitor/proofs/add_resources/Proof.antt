@@ -9,7 +9,8 @@ use Rattle.monitor.proofs.add_resources.Tie as tie
 abbrev Inv-loop : tie.InvT-loop
 Inv-loop s t₀ at₀ left₀ t at left =
     (at + 8 * left ≡ at₀ + 8 * left₀)
-    × (appendAll appendResource t₀ (entries (resourceAt s) 8 at₀ left₀) ≡ appendAll appendResource t (entries (resourceAt s) 8 at left))
+    × (appendAll appendResource t₀ (entries (resourceAt s) 8 at₀ left₀) ≡ appendAll appendResource t
+    (entries (resourceAt s) 8 at left))
 
 abbrev μ-loop : tie.MeasureT-loop
 μ-loop s t₀ at₀ left₀ t at left = left
@@ -20,7 +21,9 @@ loop-again c =
     let s = c .before .before .before .before .before .args in (
       omega arith,
       l .inv .1 ∙ section-next appendResource (resourceAt (s .s .now)) 8 (l .t) _ (l .at) (l .left) _
-          (c .before .before .loop-test .taken) (c .before .resource-at .ensures ∙ entry-there zeroResource resourceAt 8 (s .s .now) (l .at) (omega arith)) (c .append-resource .ensures),
+          (c .before .before .loop-test .taken)
+          (c .before .resource-at .ensures ∙ entry-there zeroResource resourceAt 8 (s .s .now) (l .at)
+          (omega arith)) (c .append-resource .ensures),
     )
 
 returns : tie.Need-returns Inv-loop μ-loop

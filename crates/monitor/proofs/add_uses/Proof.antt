@@ -1,5 +1,6 @@
 -- `add_uses` meets its contract: at each turn the whole table is the table for the entries that are left.
-use Rattle.monitor.proofs.Kit.{_+_, _*_, _≡_, refl, sym, _∙_, arith, needs, entries, u8At, appendAll, section-next}
+use Rattle.monitor.proofs.Kit.{_+_, _*_, _≡_, refl, sym, _∙_, arith, needs, entries, u8At, appendAll}
+use Rattle.monitor.proofs.Kit.{section-next}
 use Rattle.monitor.proofs.Kit.{section-ends}
 use Rattle.monitor.specs.Installing.{addUse}
 use Rattle.monitor.proofs.add_uses.Statement.{statement}

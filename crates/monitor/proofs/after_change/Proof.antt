@@ -1,5 +1,6 @@
 -- `after_change` meets its contract: a refusal leaves all, and else the changed apps are those of the next state.
-use Rattle.monitor.proofs.Kit.{sym, _∙_, arith, needs, modelOf, Kept, kept-by, refused-stays, grant-steps, member-low}
+use Rattle.monitor.proofs.Kit.{sym, _∙_, arith, needs, modelOf, Kept, kept-by, refused-stays, grant-steps}
+use Rattle.monitor.proofs.Kit.{member-low}
 use Rattle.monitor.proofs.after_change.Statement.{statement}
 use Rattle.monitor.proofs.after_change.Tie as tie
 

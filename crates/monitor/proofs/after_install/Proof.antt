@@ -1,6 +1,7 @@
 -- `after_install` meets its contract: a refusal leaves all, and else the bytes are a good manifest, whose sections make
 -- the tables of the next state.
-use Rattle.monitor.proofs.Kit.{_≡_, sym, ap, _∙_, needs, Kept, kept-by, refused-stays, installs-good, install-steps}
+use Rattle.monitor.proofs.Kit.{_≡_, sym, ap, _∙_, needs, Kept, kept-by, refused-stays, installs-good}
+use Rattle.monitor.proofs.Kit.{install-steps}
 use Rattle.monitor.proofs.Kit.{sections-found, never-malformed, good-within}
 use mathlib.Core.Bool.{true}
 use Rattle.manifest.specs.declared.Sections.{Sections}
@@ -42,7 +43,8 @@ returns-3 c =
     let found = sections-found (s .args .s .now) h _
     (sym (c .before .before .before .before .check .ensures) ∙ c .before .before .verdict .given .1) in
     install-steps _ _ (kept s) _ _ _ (told .enum-told2 .given .1) (s .args .image) (s .args .s .now) (s .pre .1) _
-    (c .install-made .ensures ∙ ap (λ (m : Sections). installMade (s .args .s .now) (s .args .image) m (s .args .d)) found)
+    (c .install-made .ensures ∙ ap (λ (m : Sections). installMade (s .args .s .now) (s .args .image) m (s .args .d))
+    found)
 
 pub after-install-spec : {M : Type 1} → statement M
 after-install-spec =

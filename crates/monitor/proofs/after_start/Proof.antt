@@ -1,6 +1,7 @@
 -- `after_start` meets its contract: a refusal leaves all, and else the instances with the new one are those of the next
 -- state.
-use Rattle.monitor.proofs.Kit.{refl, sym, _∙_, arith, needs, modelOf, Kept, kept-by, refused-stays, start-steps, number-low}
+use Rattle.monitor.proofs.Kit.{refl, sym, _∙_, arith, needs, modelOf, Kept, kept-by, refused-stays, start-steps}
+use Rattle.monitor.proofs.Kit.{number-low}
 use Rattle.monitor.proofs.after_start.Statement.{statement}
 use Rattle.monitor.proofs.after_start.Tie as tie
 

@@ -1,4 +1,5 @@
--- `after_stop` meets its contract: a refusal leaves all, and else the instances and the loans left are those of the next state.
+-- `after_stop` meets its contract: a refusal leaves all, and else the instances and the loans left are those of the
+-- next state.
 use Rattle.monitor.proofs.Kit.{needs, Kept, kept-by, refused-stays, stop-steps}
 use Rattle.state.specs.Effects.{loansAfter}
 use Rattle.state.specs.Stored.{modelOf}

@@ -1,4 +1,5 @@
--- `after_uninstall` meets its contract: a refusal leaves all, and else the tables and the loans left are those of the next state.
+-- `after_uninstall` meets its contract: a refusal leaves all, and else the tables and the loans left are those of the
+-- next state.
 use Rattle.monitor.proofs.Kit.{needs, Kept, kept-by, refused-stays, uninstall-steps}
 use Rattle.state.specs.Effects.{loansAfter}
 use Rattle.state.specs.Stored.{modelOf}

@@ -7,13 +7,15 @@ use Rattle.monitor.proofs.narrow.Tie as tie
 cast-t5 : tie.Need-cast-t5
 unfolding receiverNumber
 cast-t5 c =
-    let low : c .before .receiver .given .0 .0 ≤ 65535 = rw (c .before .receiver .given .1) at (c .before .before .before .pre) in
+    let low : c .before .receiver .given .0 .0 ≤ 65535 = rw (c .before .receiver .given .1) at
+    (c .before .before .before .pre) in
     omega arith
 
 cast-t6 : tie.Need-cast-t6
 unfolding receiverNumber
 cast-t6 c =
-    let low : c .before .receiver2 .given .0 .0 ≤ 65535 = rw (c .before .receiver2 .given .1) at (c .before .before .before .pre) in
+    let low : c .before .receiver2 .given .0 .0 ≤ 65535 = rw (c .before .receiver2 .given .1) at
+    (c .before .before .before .pre) in
     omega arith
 
 returns : tie.Need-returns

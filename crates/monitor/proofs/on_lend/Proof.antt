@@ -15,7 +15,8 @@ after-lend-requires c κs =
     let a = s .args in (
       s .pre,
       c .before .before .before .lend .ensures
-          ∙ ap (λ (q : Receiver). answerTo (modelOf (a .d) (a .lent)) (onLoans (lend (a .operations) (a .provider) (a .giver) (a .uri) q)))
+          ∙ ap (λ (q : Receiver). answerTo (modelOf (a .d) (a .lent))
+          (onLoans (lend (a .operations) (a .provider) (a .giver) (a .uri) q)))
           (sym (c .narrow .ensures)),
     )
 
@@ -23,7 +24,8 @@ returns : tie.Need-returns
 returns c =
     let a = c .before .before .before .before .before .args in
     c .after-lend .ensures
-    ∙ ap (λ (q : Receiver). steppedBy (a .d) (a .lent) (onLoans (lend (a .operations) (a .provider) (a .giver) (a .uri) q)))
+    ∙ ap (λ (q : Receiver). steppedBy (a .d) (a .lent)
+    (onLoans (lend (a .operations) (a .provider) (a .giver) (a .uri) q)))
     (c .before .narrow .ensures)
 
 returns-2 : tie.Need-returns-2

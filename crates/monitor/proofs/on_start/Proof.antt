@@ -1,5 +1,5 @@
--- `on_start` meets its contract: the running numbers of a valid device are those of its list, so the number found in them
--- is the free one, and the step follows the answer.
+-- `on_start` meets its contract: the running numbers of a valid device are those of its list, so the number found in
+-- them is the free one, and the step follows the answer.
 use Rattle.monitor.proofs.Kit.{_∙_, needs, kept-by, running-kept, runs-unasked}
 use mathlib.Core.List.{[]}
 use Rattle.answers.specs.StartingLaws.{start-formed}

@@ -5,7 +5,9 @@ use Rattle.monitor.proofs.step_lent.Statement.{statement}
 use Rattle.monitor.proofs.step_lent.Tie as tie
 
 returns : tie.Need-returns
-returns c = lent-full _ _ _ _ (c .before .before .before .before .if1 .taken) _ (c .before .before .before .step-table .ensures) _ (c .changed .ensures)
+returns c =
+    lent-full _ _ _ _ (c .before .before .before .before .if1 .taken) _ (c .before .before .before .step-table .ensures)
+    _ (c .changed .ensures)
 
 returns-2 : tie.Need-returns-2
 returns-2 c = lent-short _ _ _ _ (c .if1 .left)

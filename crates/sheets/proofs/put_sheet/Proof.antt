@@ -3,7 +3,7 @@ use Prim.Native.Nat.{_-_}
 use native.Mathlib.Omega.{arith}
 use borrow.Author.Needs.{needs}
 use lib.ListN.{length, length-set}
-use Rattle.tape.proofs.Whole.{bytes-inside}
+use Rattle.tape.specs.FilledLaws.{bytes-inside}
 use Rattle.sheets.proofs.Sizes.{put-inside}
 use Rattle.sheets.proofs.put_sheet.Statement.{statement}
 use Rattle.sheets.proofs.put_sheet.Tie as tie
@@ -12,7 +12,7 @@ add-end : tie.Need-add-end
 add-end c =
     let a = c .before .before .before .before .before .before .before .before .before .args in
     let s = c .before .before .before .before .before .sheet-of in
-    let n = bytes-inside _ _ (c .before .wrote .given .1) (s .ensures .0) (s .ensures .1) .0 in
+    let n = bytes-inside _ _ _ (c .before .wrote .given .1) (s .ensures .0) (s .ensures .1) .0 in
     omega (
       arith,
       put-inside (a .at) (length (a .out .now) - a .at) (c .before .wrote .given .0 .0) (a .out .now) (s .last .1 .0)
@@ -23,7 +23,7 @@ sub-if1 : tie.Need-sub-if1
 sub-if1 c =
     let a = c .before .before .before .before .before .before .before .before .before .args in
     let s = c .before .before .before .before .before .sheet-of in
-    let n = bytes-inside _ _ (c .before .wrote .given .1) (s .ensures .0) (s .ensures .1) .0 in
+    let n = bytes-inside _ _ _ (c .before .wrote .given .1) (s .ensures .0) (s .ensures .1) .0 in
     put-inside (a .at) (length (a .out .now) - a .at) (c .before .wrote .given .0 .0) (a .out .now) (s .last .1 .0)
     (search needs) n
 

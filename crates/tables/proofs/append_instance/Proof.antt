@@ -13,4 +13,6 @@ unfolding appendInstance
 returns-2 c = rw (lt-leb _ _ (c .before .before .if1 .left), c .with-digit .ensures, c .before .wide .ensures)
 
 pub append-instance-spec : {M : Type 1} → statement M
-append-instance-spec = tie.close (tie.spec returns (λ c. omega arith) (λ c. omega arith) (λ c. omega arith) (λ c κs. search needs) (λ c κs. search needs) returns-2)
+append-instance-spec =
+    tie.close (tie.spec returns (λ c. omega arith) (λ c. omega arith) (λ c. omega arith) (λ c κs. search needs)
+    (λ c κs. search needs) returns-2)

@@ -1,6 +1,8 @@
--- `built_in` meets its contract: each of the sixteen rows of the table says what the built-in permission of its number is.
+-- `built_in` meets its contract: each of the sixteen rows of the table says what the built-in permission of its number
+-- is.
 use Prim.Native.Nat.{zero, suc}
-use Rattle.tables.proofs.Kit.{ℕ, _≡_, refl, sym, _∙_, cond, List, [], _∷_, none, _<_, _≤_, arith, needs, getD, eqb, eq-eqb, ne-eqb}
+use Rattle.tables.proofs.Kit.{ℕ, _≡_, refl, sym, _∙_, cond, List, [], _∷_, none, _<_, _≤_, arith, needs, getD}
+use Rattle.tables.proofs.Kit.{eqb, eq-eqb, ne-eqb}
 use Rattle.rules.specs.Lists.{find, bind}
 use Rattle.rules.specs.Permissions.{builtIns, builtIn}
 use Rattle.tables.specs.declared.BuiltIn.{BuiltIn}
@@ -34,7 +36,8 @@ rows =
     row 4 0 ∷ []
 
 abbrev said : BuiltIn → Look
-said b = cond (eqb (b .level) 4) Undefined (Found (record { definer = 0; signer = 1; level = b .level; group = b .group }))
+said b = cond (eqb (b .level) 4) Undefined
+    (Found (record { definer = 0; signer = 1; level = b .level; group = b .group }))
 
 rule : (p : ℕ) → p < 16 → lookOf (builtIn p) ≡ said (getD rows p (row 0 0))
 unfolding builtIn builtIns find bind
@@ -54,12 +57,32 @@ rule (suc (suc (suc (suc (suc (suc (suc (suc (suc (suc (suc (suc zero)))))))))))
 rule (suc (suc (suc (suc (suc (suc (suc (suc (suc (suc (suc (suc (suc zero))))))))))))) h = refl
 rule (suc (suc (suc (suc (suc (suc (suc (suc (suc (suc (suc (suc (suc (suc zero)))))))))))))) h = refl
 rule (suc (suc (suc (suc (suc (suc (suc (suc (suc (suc (suc (suc (suc (suc (suc zero))))))))))))))) h = refl
-rule (suc (suc (suc (suc (suc (suc (suc (suc (suc (suc (suc (suc (suc (suc (suc (suc p)))))))))))))))) h = absurd (omega arith)
+rule (suc (suc (suc (suc (suc (suc (suc (suc (suc (suc (suc (suc (suc (suc (suc (suc p)))))))))))))))) h =
+    absurd (omega arith)
 
 past : (p : ℕ) → 16 ≤ p → builtIn p ≡ none
 unfolding builtIn builtIns find bind
 past p h =
-    rw (ne-eqb 1 p (λ e. omega arith), ne-eqb 2 p (λ e. omega arith), ne-eqb 3 p (λ e. omega arith), ne-eqb 4 p (λ e. omega arith), ne-eqb 5 p (λ e. omega arith), ne-eqb 6 p (λ e. omega arith), ne-eqb 7 p (λ e. omega arith), ne-eqb 8 p (λ e. omega arith), ne-eqb 9 p (λ e. omega arith), ne-eqb 10 p (λ e. omega arith), ne-eqb 11 p (λ e. omega arith), ne-eqb 12 p (λ e. omega arith), ne-eqb 13 p (λ e. omega arith), ne-eqb 14 p (λ e. omega arith), ne-eqb 15 p (λ e. omega arith))
+    rw (
+      ne-eqb 1 p (λ e. omega arith),
+      ne-eqb 2 p (λ e. omega arith),
+      ne-eqb 3 p (λ e. omega arith),
+      ne-eqb 4 p
+          (λ e. omega arith),
+      ne-eqb 5 p (λ e. omega arith),
+      ne-eqb 6 p (λ e. omega arith),
+      ne-eqb 7 p (λ e. omega arith),
+      ne-eqb 8 p (λ e. omega arith),
+      ne-eqb 9 p (λ e. omega arith),
+      ne-eqb 10 p (λ e. omega arith),
+      ne-eqb 11 p
+          (λ e. omega arith),
+      ne-eqb 12 p (λ e. omega arith),
+      ne-eqb 13 p (λ e. omega arith),
+      ne-eqb 14 p
+          (λ e. omega arith),
+      ne-eqb 15 p (λ e. omega arith),
+    )
 
 returns : tie.Need-returns
 returns c = rw (past (c .before .args .permission) (omega arith))

@@ -9,7 +9,8 @@ use Rattle.tables.proofs.change_app.Statement.{statement}
 use Rattle.tables.proofs.change_app.Tie as tie
 
 abbrev Inv-loop : tie.InvT-loop
-Inv-loop number change member n t₀ i₀ t i = (t .count ≡ t₀ .count) × Mapped (changedAt number change member) (t₀ .entries) n i (t .entries)
+Inv-loop number change member n t₀ i₀ t i =
+    (t .count ≡ t₀ .count) × Mapped (changedAt number change member) (t₀ .entries) n i (t .entries)
 
 abbrev μ-loop : tie.MeasureT-loop
 μ-loop number change member n t₀ i₀ t i = n - i
@@ -17,7 +18,8 @@ abbrev μ-loop : tie.MeasureT-loop
 abbrev table : List App → ℕ → Apps
 table l k = record { entries = l; count = k }
 
-start : (c : tie.After-within Inv-loop μ-loop) → Bound (c .before .args .apps .entries) (c .before .args .apps .count) (c .within .result)
+start : (c : tie.After-within Inv-loop μ-loop) → Bound (c .before .args .apps .entries) (c .before .args .apps .count)
+    (c .within .result)
 start c = bound _ (apps-long (c .before .args .apps) (c .before .good .0)) (c .within .ensures)
 
 loop-holds : tie.Need-loop-holds Inv-loop μ-loop

@@ -17,8 +17,11 @@ loop-holds c = (refl, cleared-begin (grants-long (c .before .args .app) (c .befo
 
 loop-again : tie.Need-loop-again Inv-loop μ-loop
 loop-again c =
-    let l = c .before .loop in
-    (ap (λ (a : App). regrant a (set (l .t .grants) (l .j) 0) (a .granted)) (l .inv .0), cleared-next (l .inv .1) (c .loop-test .taken))
+    let l = c .before .loop in (
+      ap (λ (a : App). regrant a (set (l .t .grants) (l .j) 0) (a .granted)) (l .inv .0),
+      cleared-next (l .inv .1)
+          (c .loop-test .taken),
+    )
 
 returns : tie.Need-returns Inv-loop μ-loop
 returns c =
@@ -27,7 +30,8 @@ returns c =
     let n : ℕ = c .before .before .within .result in
     let b : Bound (s .args .app .grants) (s .args .count) n =
     bound (s .args .count) (grants-long (s .args .app) (s .good .0)) (c .before .before .within .ensures) in
-    let e : regrant (l .t) (l .t .grants) n ≡ regrant (s .args .app) (l .t .grants) n = ap (λ (a : App). regrant a (l .t .grants) n) (l .inv .0) in
+    let e : regrant (l .t) (l .t .grants) n ≡ regrant (s .args .app) (l .t .grants) n = ap
+    (λ (a : App). regrant a (l .t .grants) n) (l .inv .0) in
     e ∙ cc (cleared-ends (l .inv .1) (c .loop-test .left), cleared-count (l .inv .1), b .same)
 
 pub cut-grants-spec : {M : Type 1} → statement M

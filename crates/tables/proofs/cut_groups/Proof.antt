@@ -17,8 +17,11 @@ loop-holds c = (refl, cleared-begin (groups-long (c .before .args .app) (c .befo
 
 loop-again : tie.Need-loop-again Inv-loop μ-loop
 loop-again c =
-    let l = c .before .loop in
-    (ap (λ (a : App). regroup a (set (l .t .groups) (l .j) 0) (a .grouped)) (l .inv .0), cleared-next (l .inv .1) (c .loop-test .taken))
+    let l = c .before .loop in (
+      ap (λ (a : App). regroup a (set (l .t .groups) (l .j) 0) (a .grouped)) (l .inv .0),
+      cleared-next (l .inv .1)
+          (c .loop-test .taken),
+    )
 
 returns : tie.Need-returns Inv-loop μ-loop
 returns c =
@@ -27,7 +30,8 @@ returns c =
     let n : ℕ = c .before .before .within .result in
     let b : Bound (s .args .app .groups) (s .args .count) n =
     bound (s .args .count) (groups-long (s .args .app) (s .good .0)) (c .before .before .within .ensures) in
-    let e : regroup (l .t) (l .t .groups) n ≡ regroup (s .args .app) (l .t .groups) n = ap (λ (a : App). regroup a (l .t .groups) n) (l .inv .0) in
+    let e : regroup (l .t) (l .t .groups) n ≡ regroup (s .args .app) (l .t .groups) n = ap
+    (λ (a : App). regroup a (l .t .groups) n) (l .inv .0) in
     e ∙ cc (cleared-ends (l .inv .1) (c .loop-test .left), cleared-count (l .inv .1), b .same)
 
 pub cut-groups-spec : {M : Type 1} → statement M

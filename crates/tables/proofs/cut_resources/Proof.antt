@@ -12,7 +12,8 @@ abbrev μ-loop : tie.MeasureT-loop
 μ-loop count n z t₀ j₀ t j = 128 - j
 
 loop-holds : tie.Need-loop-holds Inv-loop μ-loop
-loop-holds c = let s = c .before .before in cleared-begin (resources-long (s .args .resources) (s .good .0)) (omega arith)
+loop-holds c = let s = c .before .before in
+    cleared-begin (resources-long (s .args .resources) (s .good .0)) (omega arith)
 
 loop-again : tie.Need-loop-again Inv-loop μ-loop
 loop-again c = cleared-next (c .before .loop .inv) (c .loop-test .taken)
@@ -21,10 +22,12 @@ returns : tie.Need-returns Inv-loop μ-loop
 returns c =
     let s = c .before .before .before .before in
     let l = c .before .loop in
-    let f : Cleared zeroResource (s .args .resources .entries) 128 (c .before .before .before .within .result) (l .j) (l .t .entries) =
+    let f : Cleared zeroResource (s .args .resources .entries) 128 (c .before .before .before .within .result) (l .j)
+    (l .t .entries) =
     rw (← c .before .before .zero-resource .ensures) (l .inv) in
     let b : Bound (s .args .resources .entries) (s .args .count) (c .before .before .before .within .result) =
-    bound (s .args .count) (resources-long (s .args .resources) (s .good .0)) (c .before .before .before .within .ensures) in
+    bound (s .args .count) (resources-long (s .args .resources) (s .good .0))
+    (c .before .before .before .within .ensures) in
     cc (cleared-ends f (c .loop-test .left), cleared-count f, b .same)
 
 pub cut-resources-spec : {M : Type 1} → statement M

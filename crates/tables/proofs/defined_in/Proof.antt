@@ -8,11 +8,13 @@ use Rattle.tables.specs.FindingLaws.{Found, found, not-found}
 use Rattle.tables.proofs.defined_in.Statement.{statement}
 use Rattle.tables.proofs.defined_in.Tie as tie
 
-there : (c : tie.After-place) → Found (isDefinition (c .before .before .before .args .permission)) zeroDefinition (c .before .before .before .args .t2 .entries) (c .before .before .before .args .t2 .count) (c .place .given .0 .0)
+there : (c : tie.After-place) → Found (isDefinition (c .before .before .before .args .permission)) zeroDefinition
+    (c .before .before .before .args .t2 .entries) (c .before .before .before .args .t2 .count) (c .place .given .0 .0)
 there c = found _ zeroDefinition _ _ _ (sym (c .before .before .find-definition .ensures) ∙ c .place .given .1)
 
 below : (c : tie.After-place) → c .place .given .0 .0 < 256
-below c = let s = c .before .before .before in omega (arith, there c .below, definitions-long (s .args .t2) (s .good .1 .0))
+below c = let s = c .before .before .before in
+    omega (arith, there c .below, definitions-long (s .args .t2) (s .good .1 .0))
 
 returns : tie.Need-returns
 unfolding definedIn bind

@@ -7,7 +7,9 @@ use Rattle.tables.proofs.defines.Statement.{statement}
 use Rattle.tables.proofs.defines.Tie as tie
 
 abbrev Inv-loop : tie.InvT-loop
-Inv-loop app permission t n i₀ i = Some (λ d. eqb (d .app) app && eqb (d .define .permission) permission) (t .entries) n (definedBy (definitionsIn t) app permission) i
+Inv-loop app permission t n i₀ i =
+    Some (λ d. eqb (d .app) app && eqb (d .define .permission) permission) (t .entries) n
+    (definedBy (definitionsIn t) app permission) i
 
 abbrev μ-loop : tie.MeasureT-loop
 μ-loop app permission t n i₀ i = n - i
@@ -18,10 +20,14 @@ loop-holds c = some-begin (bound _ (definitions-long (c .before .args .t1) (c .b
 
 returns : tie.Need-returns Inv-loop μ-loop
 unfolding definedBy
-returns c = some-hits (c .before .before .before .before .before .loop .inv) (c .before .before .before .before .loop-test .taken) _ (c .if1 .taken)
+returns c =
+    some-hits (c .before .before .before .before .before .loop .inv)
+    (c .before .before .before .before .loop-test .taken) _ (c .if1 .taken)
 
 loop-again : tie.Need-loop-again Inv-loop μ-loop
-loop-again c = some-next (c .before .before .before .before .before .loop .inv) (c .before .before .before .before .loop-test .taken) _ (c .if1 .left)
+loop-again c =
+    some-next (c .before .before .before .before .before .loop .inv)
+    (c .before .before .before .before .loop-test .taken) _ (c .if1 .left)
 
 returns-2 : tie.Need-returns-2 Inv-loop μ-loop
 unfolding definedBy

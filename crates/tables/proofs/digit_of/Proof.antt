@@ -1,4 +1,5 @@
--- `digit_of` meets its contract: a number that no instance has has no digit, and the digit of any other is a power of 2.
+-- `digit_of` meets its contract: a number that no instance has has no digit, and the digit of any other is a power of
+-- 2.
 use Rattle.tables.proofs.Kit.{_-_, sym, ap, _∙_, arith, needs}
 use lib.Pow.{shl-exact}
 use Rattle.tables.specs.Running.{digitOf}

@@ -16,10 +16,14 @@ loop-holds : tie.Need-loop-holds Inv-loop μ-loop
 loop-holds c = placed-begin (bound _ (instances-long (c .before .args .t1) (c .before .good .0)) (c .within .ensures))
 
 returns : tie.Need-returns Inv-loop μ-loop
-returns c = placed-hits (c .before .before .before .before .loop .inv) (c .before .before .before .loop-test .taken) _ (eq-eqb _ _ (sym (c .before .wide .ensures) ∙ c .if1 .taken))
+returns c =
+    placed-hits (c .before .before .before .before .loop .inv) (c .before .before .before .loop-test .taken) _
+    (eq-eqb _ _ (sym (c .before .wide .ensures) ∙ c .if1 .taken))
 
 loop-again : tie.Need-loop-again Inv-loop μ-loop
-loop-again c = placed-next (c .before .before .before .before .loop .inv) (c .before .before .before .loop-test .taken) _ (ne-eqb _ _ (λ e. c .if1 .left (c .before .wide .ensures ∙ e)))
+loop-again c =
+    placed-next (c .before .before .before .before .loop .inv) (c .before .before .before .loop-test .taken) _
+    (ne-eqb _ _ (λ e. c .if1 .left (c .before .wide .ensures ∙ e)))
 
 returns-2 : tie.Need-returns-2 Inv-loop μ-loop
 returns-2 c = placed-ends (c .before .loop .inv) (c .loop-test .left)

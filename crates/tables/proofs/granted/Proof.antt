@@ -10,19 +10,27 @@ use Rattle.tables.proofs.granted.Statement.{statement}
 use Rattle.tables.proofs.granted.Tie as tie
 
 abbrev Inv-loop : tie.InvT-loop
-Inv-loop app number t n i₀ i = Some (λ a. eqb (appNumber (rowOf a)) app && mem number (rowOf a .grants)) (t .entries) n (grantedIn (rowsIn t) app number) i
+Inv-loop app number t n i₀ i =
+    Some (λ a. eqb (appNumber (rowOf a)) app && mem number (rowOf a .grants)) (t .entries) n
+    (grantedIn (rowsIn t) app number) i
 
 abbrev μ-loop : tie.MeasureT-loop
 μ-loop app number t n i₀ i = n - i
 
 loop-holds : tie.Need-loop-holds Inv-loop μ-loop
-loop-holds c = some-as (granted-any (appsIn (c .before .args .t1)) _ _) (bound _ (apps-long (c .before .args .t1) (c .before .good .0)) (c .within .ensures))
+loop-holds c =
+    some-as (granted-any (appsIn (c .before .args .t1)) _ _)
+    (bound _ (apps-long (c .before .args .t1) (c .before .good .0)) (c .within .ensures))
 
 returns : tie.Need-returns Inv-loop μ-loop
-returns c = some-hits (c .before .before .before .before .loop .inv) (c .before .before .before .loop-test .taken) _ (sym (c .before .has-grant .ensures) ∙ c .if1 .taken)
+returns c =
+    some-hits (c .before .before .before .before .loop .inv) (c .before .before .before .loop-test .taken) _
+    (sym (c .before .has-grant .ensures) ∙ c .if1 .taken)
 
 loop-again : tie.Need-loop-again Inv-loop μ-loop
-loop-again c = some-next (c .before .before .before .before .loop .inv) (c .before .before .before .loop-test .taken) _ (sym (c .before .has-grant .ensures) ∙ c .if1 .left)
+loop-again c =
+    some-next (c .before .before .before .before .loop .inv) (c .before .before .before .loop-test .taken) _
+    (sym (c .before .has-grant .ensures) ∙ c .if1 .left)
 
 returns-2 : tie.Need-returns-2 Inv-loop μ-loop
 returns-2 c = some-ends (c .before .loop .inv) (c .loop-test .left)

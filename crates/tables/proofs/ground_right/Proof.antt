@@ -16,12 +16,26 @@ returns-2 c = rw (ne-eqb _ _ (c .before .before .before .if1 .left), ne-eqb _ _ 
 returns-3 : tie.Need-returns-3
 unfolding rightGround
 returns-3 c =
-    rw (ne-eqb _ _ (c .before .before .before .before .before .before .if1 .left), eq-eqb _ _ (c .before .before .before .if2 .left), ← c .before .before .permission-for .ensures, sym (c .before .allows .ensures) ∙ c .if3 .taken)
+    rw (
+      ne-eqb _ _ (c .before .before .before .before .before .before .if1 .left),
+      eq-eqb _ _
+          (c .before .before .before .if2 .left),
+      ← c .before .before .permission-for .ensures,
+      sym
+          (c .before .allows .ensures) ∙ c .if3 .taken,
+    )
 
 returns-4 : tie.Need-returns-4
 unfolding rightGround
 returns-4 c =
-    rw (ne-eqb _ _ (c .before .before .before .before .before .before .if1 .left), eq-eqb _ _ (c .before .before .before .if2 .left), ← c .before .before .permission-for .ensures, sym (c .before .allows .ensures) ∙ c .if3 .left)
+    rw (
+      ne-eqb _ _ (c .before .before .before .before .before .before .if1 .left),
+      eq-eqb _ _
+          (c .before .before .before .if2 .left),
+      ← c .before .before .permission-for .ensures,
+      sym
+          (c .before .allows .ensures) ∙ c .if3 .left,
+    )
 
 pub ground-right-spec : {M : Type 1} → statement M
 ground-right-spec =

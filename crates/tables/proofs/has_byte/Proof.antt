@@ -17,10 +17,14 @@ loop-holds c = some-begin (bound _ (refl) (c .within .ensures))
 
 returns : tie.Need-returns Inv-loop μ-loop
 unfolding mem
-returns c = some-hits (c .before .before .before .before .loop .inv) (c .before .before .before .loop-test .taken) _ (eq-eqb _ _ (sym (c .if1 .taken) ∙ c .before .wide .ensures))
+returns c =
+    some-hits (c .before .before .before .before .loop .inv) (c .before .before .before .loop-test .taken) _
+    (eq-eqb _ _ (sym (c .if1 .taken) ∙ c .before .wide .ensures))
 
 loop-again : tie.Need-loop-again Inv-loop μ-loop
-loop-again c = some-next (c .before .before .before .before .loop .inv) (c .before .before .before .loop-test .taken) _ (ne-eqb _ _ (λ e. c .if1 .left (c .before .wide .ensures ∙ sym e)))
+loop-again c =
+    some-next (c .before .before .before .before .loop .inv) (c .before .before .before .loop-test .taken) _
+    (ne-eqb _ _ (λ e. c .if1 .left (c .before .wide .ensures ∙ sym e)))
 
 returns-2 : tie.Need-returns-2 Inv-loop μ-loop
 unfolding mem

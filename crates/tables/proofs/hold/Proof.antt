@@ -8,7 +8,9 @@ use Rattle.tables.proofs.hold.Statement.{statement}
 use Rattle.tables.proofs.hold.Tie as tie
 
 -- the app lists the permission
-listed : (c : tie.Else1) → mem (c .before .before .before .before .before .args .permission) (take (c .before .before .before .before .before .args .t2 .used) (c .before .before .before .before .before .args .t2 .uses)) ≡ true
+listed : (c : tie.Else1) → mem (c .before .before .before .before .before .args .permission)
+    (take (c .before .before .before .before .before .args .t2 .used)
+    (c .before .before .before .before .before .args .t2 .uses)) ≡ true
 listed c = sym (c .before .has-byte .ensures) ∙ not-false _ (c .if1 .left)
 
 returns : tie.Need-returns
@@ -21,11 +23,23 @@ returns-2 c = rw (listed (c .before .before), eq-eqb _ _ (c .if2 .taken))
 
 returns-3 : tie.Need-returns-3
 unfolding hold viewBy viewOf holdDangerous
-returns-3 c = c .hold-dangerous .ensures ∙ rw (listed (c .before .before .before .before .before), ne-eqb _ _ (c .before .before .before .if2 .left), eq-eqb _ _ (c .before .if3 .taken))
+returns-3 c =
+    c .hold-dangerous .ensures ∙ rw (
+      listed (c .before .before .before .before .before),
+      ne-eqb _ _ (c .before .before .before .if2 .left),
+      eq-eqb _ _
+          (c .before .if3 .taken),
+    )
 
 returns-4 : tie.Need-returns-4
 unfolding hold holdSignature
-returns-4 c = c .hold-signature .ensures ∙ rw (listed (c .before .before .before .before .before), ne-eqb _ _ (c .before .before .before .if2 .left), ne-eqb _ _ (c .before .if3 .left))
+returns-4 c =
+    c .hold-signature .ensures ∙ rw (
+      listed (c .before .before .before .before .before),
+      ne-eqb _ _ (c .before .before .before .if2 .left),
+      ne-eqb _ _
+          (c .before .if3 .left),
+    )
 
 pub hold-spec : {M : Type 1} → statement M
 hold-spec =

@@ -16,11 +16,16 @@ asked c = known (viewBy (rowsIn (c .args .apps)) (definitionsIn (c .args .defini
 
 returns : tie.Need-returns
 unfolding holds test
-returns c = rw (look-none (asked (c .before .before .before)) (sym (c .before .before .known-of .ensures) ∙ c .enum-told .given .1))
+returns c =
+    rw (look-none (asked (c .before .before .before))
+    (sym (c .before .before .known-of .ensures) ∙ c .enum-told .given .1))
 
 returns-2 : tie.Need-returns-2
 unfolding holds test hold viewBy viewOf
-returns-2 c = c .held .ensures ∙ ap isHeld (c .before .hold .ensures) ∙ rw (look-found (asked (c .before .before .before .before .before .before)) _ (sym (c .before .before .before .before .before .known-of .ensures) ∙ c .before .before .before .look .given .1))
+returns-2 c =
+    c .held .ensures ∙ ap isHeld (c .before .hold .ensures) ∙ rw
+    (look-found (asked (c .before .before .before .before .before .before)) _
+    (sym (c .before .before .before .before .before .known-of .ensures) ∙ c .before .before .before .look .given .1))
 
 pub holds-spec : {M : Type 1} → statement M
 holds-spec =

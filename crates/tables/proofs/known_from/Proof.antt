@@ -8,7 +8,8 @@ use Rattle.tables.specs.LookingLaws.{blankApp, app-found, app-missing}
 use Rattle.tables.proofs.known_from.Statement.{statement}
 use Rattle.tables.proofs.known_from.Tie as tie
 
-there : (c : tie.After-place) → Found (isApp (c .before .before .before .args .definition .app)) blankApp (c .before .before .before .args .t1 .entries) (c .before .before .before .args .t1 .count) (c .place .given .0 .0)
+there : (c : tie.After-place) → Found (isApp (c .before .before .before .args .definition .app)) blankApp
+    (c .before .before .before .args .t1 .entries) (c .before .before .before .args .t1 .count) (c .place .given .0 .0)
 there c = found _ blankApp _ _ _ (sym (c .before .before .find-app .ensures) ∙ c .place .given .1)
 
 below : (c : tie.After-place) → c .place .given .0 .0 < 16

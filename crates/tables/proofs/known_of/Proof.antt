@@ -10,11 +10,16 @@ use Rattle.tables.proofs.known_of.Tie as tie
 
 returns : tie.Need-returns
 unfolding known orFind
-returns c = rw (look-found (builtIn (c .before .before .before .before .args .permission)) _ (sym (c .before .before .before .built-in .ensures) ∙ c .before .platform .given .1))
+returns c =
+    rw (look-found (builtIn (c .before .before .before .before .args .permission)) _
+    (sym (c .before .before .before .built-in .ensures) ∙ c .before .platform .given .1))
 
 returns-2 : tie.Need-returns-2
 unfolding known orFind viewBy viewOf
-returns-2 c = c .defined-in .ensures ∙ rw (look-none (builtIn (c .before .before .before .before .args .permission)) (sym (c .before .before .before .built-in .ensures) ∙ c .before .enum-told .given .1))
+returns-2 c =
+    c .defined-in .ensures ∙ rw
+    (look-none (builtIn (c .before .before .before .before .args .permission))
+    (sym (c .before .before .before .built-in .ensures) ∙ c .before .enum-told .given .1))
 
 pub known-of-spec : {M : Type 1} → statement M
 known-of-spec =

@@ -9,7 +9,8 @@ use Rattle.tables.specs.Looking.{ownerPlace}
 use Rattle.tables.proofs.owner_of.Statement.{statement}
 use Rattle.tables.proofs.owner_of.Tie as tie
 
-there : (c : tie.After-place) → Found (isPart (c .before .before .before .args .component)) zeroPart (c .before .before .before .args .t2 .entries) (c .before .before .before .args .t2 .count) (c .place .given .0 .0)
+there : (c : tie.After-place) → Found (isPart (c .before .before .before .args .component)) zeroPart
+    (c .before .before .before .args .t2 .entries) (c .before .before .before .args .t2 .count) (c .place .given .0 .0)
 there c = found _ zeroPart _ _ _ (sym (c .before .before .find-part .ensures) ∙ c .place .given .1)
 
 below : (c : tie.After-place) → c .place .given .0 .0 < 64

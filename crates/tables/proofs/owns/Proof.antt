@@ -7,7 +7,9 @@ use Rattle.tables.proofs.owns.Statement.{statement}
 use Rattle.tables.proofs.owns.Tie as tie
 
 abbrev Inv-loop : tie.InvT-loop
-Inv-loop app component t n i₀ i = Some (λ k. eqb (k .app) app && eqb (k .component .number) component) (t .entries) n (ownedBy (partsIn t) app component) i
+Inv-loop app component t n i₀ i =
+    Some (λ k. eqb (k .app) app && eqb (k .component .number) component) (t .entries) n
+    (ownedBy (partsIn t) app component) i
 
 abbrev μ-loop : tie.MeasureT-loop
 μ-loop app component t n i₀ i = n - i
@@ -18,10 +20,14 @@ loop-holds c = some-begin (bound _ (parts-long (c .before .args .t1) (c .before 
 
 returns : tie.Need-returns Inv-loop μ-loop
 unfolding ownedBy
-returns c = some-hits (c .before .before .before .before .before .loop .inv) (c .before .before .before .before .loop-test .taken) _ (c .if1 .taken)
+returns c =
+    some-hits (c .before .before .before .before .before .loop .inv)
+    (c .before .before .before .before .loop-test .taken) _ (c .if1 .taken)
 
 loop-again : tie.Need-loop-again Inv-loop μ-loop
-loop-again c = some-next (c .before .before .before .before .before .loop .inv) (c .before .before .before .before .loop-test .taken) _ (c .if1 .left)
+loop-again c =
+    some-next (c .before .before .before .before .before .loop .inv)
+    (c .before .before .before .before .loop-test .taken) _ (c .if1 .left)
 
 returns-2 : tie.Need-returns-2 Inv-loop μ-loop
 unfolding ownedBy

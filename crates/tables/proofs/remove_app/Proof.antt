@@ -12,20 +12,27 @@ Inv-loop number n t₀ i₀ k₀ t i k = Squeezed (λ a. not (isApp number a)) (
 abbrev μ-loop : tie.MeasureT-loop
 μ-loop number n t₀ i₀ k₀ t i k = n - i
 
-start : (c : tie.After-within Inv-loop μ-loop) → Bound (c .before .args .apps .entries) (c .before .args .apps .count) (c .within .result)
+start : (c : tie.After-within Inv-loop μ-loop) → Bound (c .before .args .apps .entries) (c .before .args .apps .count)
+    (c .within .result)
 start c = bound _ (apps-long (c .before .args .apps) (c .before .good .0)) (c .within .ensures)
 
 loop-holds : tie.Need-loop-holds Inv-loop μ-loop
 loop-holds c = squeezed-begin (start c)
 
 loop-again : tie.Need-loop-again Inv-loop μ-loop
-loop-again c = squeezed-skip (c .before .before .before .before .loop .inv) (c .before .before .before .loop-test .taken) _ (ap not (eq-eqb _ _ (c .if1 .taken)))
+loop-again c =
+    squeezed-skip (c .before .before .before .before .loop .inv) (c .before .before .before .loop-test .taken) _
+    (ap not (eq-eqb _ _ (c .if1 .taken)))
 
 loop-again-2 : tie.Need-loop-again-2 Inv-loop μ-loop
-loop-again-2 c = squeezed-keep (c .before .before .before .before .loop .inv) (c .before .before .before .loop-test .taken) _ (ap not (ne-eqb _ _ (c .if1 .left)))
+loop-again-2 c =
+    squeezed-keep (c .before .before .before .before .loop .inv) (c .before .before .before .loop-test .taken) _
+    (ap not (ne-eqb _ _ (c .if1 .left)))
 
 returns : tie.Need-returns Inv-loop μ-loop
-returns c = c .cut-apps .ensures ∙ ap appsTable (squeezed-ends (c .before .before .loop .inv) (start (c .before .before .before)) (c .before .loop-test .left))
+returns c =
+    c .cut-apps .ensures ∙ ap appsTable
+    (squeezed-ends (c .before .before .loop .inv) (start (c .before .before .before)) (c .before .loop-test .left))
 
 pub remove-app-spec : {M : Type 1} → statement M
 remove-app-spec =

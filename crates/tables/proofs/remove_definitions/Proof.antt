@@ -1,5 +1,6 @@
 -- `remove_definitions` meets its contract: at each turn those that stay of the definitions passed stand at the front.
-use Rattle.tables.proofs.Kit.{_-_, eqb, eq-eqb, ne-eqb, not, ap, _∙_, arith, needs, Bound, bound, definitions-long}
+use Rattle.tables.proofs.Kit.{_-_, eqb, eq-eqb, ne-eqb, not, ap, _∙_, arith, needs, Bound, bound}
+use Rattle.tables.proofs.Kit.{definitions-long}
 use Rattle.tables.proofs.Kit.{Squeezed, squeezed-begin, squeezed-keep, squeezed-skip, squeezed-ends}
 use Rattle.tables.specs.Held.{definitionsTable}
 use Rattle.tables.proofs.remove_definitions.Statement.{statement}
@@ -11,20 +12,27 @@ Inv-loop app n t₀ i₀ k₀ t i k = Squeezed (λ d. not (eqb (d .app) app)) (t
 abbrev μ-loop : tie.MeasureT-loop
 μ-loop app n t₀ i₀ k₀ t i k = n - i
 
-start : (c : tie.After-within Inv-loop μ-loop) → Bound (c .before .args .definitions .entries) (c .before .args .definitions .count) (c .within .result)
+start : (c : tie.After-within Inv-loop μ-loop) → Bound (c .before .args .definitions .entries)
+    (c .before .args .definitions .count) (c .within .result)
 start c = bound _ (definitions-long (c .before .args .definitions) (c .before .good .0)) (c .within .ensures)
 
 loop-holds : tie.Need-loop-holds Inv-loop μ-loop
 loop-holds c = squeezed-begin (start c)
 
 loop-again : tie.Need-loop-again Inv-loop μ-loop
-loop-again c = squeezed-skip (c .before .before .before .before .loop .inv) (c .before .before .before .loop-test .taken) _ (ap not (eq-eqb _ _ (c .if1 .taken)))
+loop-again c =
+    squeezed-skip (c .before .before .before .before .loop .inv) (c .before .before .before .loop-test .taken) _
+    (ap not (eq-eqb _ _ (c .if1 .taken)))
 
 loop-again-2 : tie.Need-loop-again-2 Inv-loop μ-loop
-loop-again-2 c = squeezed-keep (c .before .before .before .before .loop .inv) (c .before .before .before .loop-test .taken) _ (ap not (ne-eqb _ _ (c .if1 .left)))
+loop-again-2 c =
+    squeezed-keep (c .before .before .before .before .loop .inv) (c .before .before .before .loop-test .taken) _
+    (ap not (ne-eqb _ _ (c .if1 .left)))
 
 returns : tie.Need-returns Inv-loop μ-loop
-returns c = c .cut-definitions .ensures ∙ ap definitionsTable (squeezed-ends (c .before .before .loop .inv) (start (c .before .before .before)) (c .before .loop-test .left))
+returns c =
+    c .cut-definitions .ensures ∙ ap definitionsTable
+    (squeezed-ends (c .before .before .loop .inv) (start (c .before .before .before)) (c .before .loop-test .left))
 
 pub remove-definitions-spec : {M : Type 1} → statement M
 remove-definitions-spec =

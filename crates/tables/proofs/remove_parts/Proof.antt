@@ -11,20 +11,27 @@ Inv-loop app n t₀ i₀ k₀ t i k = Squeezed (λ k. not (eqb (k .app) app)) (t
 abbrev μ-loop : tie.MeasureT-loop
 μ-loop app n t₀ i₀ k₀ t i k = n - i
 
-start : (c : tie.After-within Inv-loop μ-loop) → Bound (c .before .args .parts .entries) (c .before .args .parts .count) (c .within .result)
+start : (c : tie.After-within Inv-loop μ-loop) → Bound (c .before .args .parts .entries) (c .before .args .parts .count)
+    (c .within .result)
 start c = bound _ (parts-long (c .before .args .parts) (c .before .good .0)) (c .within .ensures)
 
 loop-holds : tie.Need-loop-holds Inv-loop μ-loop
 loop-holds c = squeezed-begin (start c)
 
 loop-again : tie.Need-loop-again Inv-loop μ-loop
-loop-again c = squeezed-skip (c .before .before .before .before .loop .inv) (c .before .before .before .loop-test .taken) _ (ap not (eq-eqb _ _ (c .if1 .taken)))
+loop-again c =
+    squeezed-skip (c .before .before .before .before .loop .inv) (c .before .before .before .loop-test .taken) _
+    (ap not (eq-eqb _ _ (c .if1 .taken)))
 
 loop-again-2 : tie.Need-loop-again-2 Inv-loop μ-loop
-loop-again-2 c = squeezed-keep (c .before .before .before .before .loop .inv) (c .before .before .before .loop-test .taken) _ (ap not (ne-eqb _ _ (c .if1 .left)))
+loop-again-2 c =
+    squeezed-keep (c .before .before .before .before .loop .inv) (c .before .before .before .loop-test .taken) _
+    (ap not (ne-eqb _ _ (c .if1 .left)))
 
 returns : tie.Need-returns Inv-loop μ-loop
-returns c = c .cut-parts .ensures ∙ ap partsTable (squeezed-ends (c .before .before .loop .inv) (start (c .before .before .before)) (c .before .loop-test .left))
+returns c =
+    c .cut-parts .ensures ∙ ap partsTable
+    (squeezed-ends (c .before .before .loop .inv) (start (c .before .before .before)) (c .before .loop-test .left))
 
 pub remove-parts-spec : {M : Type 1} → statement M
 remove-parts-spec =

@@ -9,11 +9,13 @@ use Rattle.tables.specs.Looking.{runningPlace}
 use Rattle.tables.proofs.running_app.Statement.{statement}
 use Rattle.tables.proofs.running_app.Tie as tie
 
-there : (c : tie.After-run) → Found (isInstance (c .before .before .before .args .number)) zeroInstance (c .before .before .before .args .t3 .entries) (c .before .before .before .args .t3 .count) (c .run .given .0 .0)
+there : (c : tie.After-run) → Found (isInstance (c .before .before .before .args .number)) zeroInstance
+    (c .before .before .before .args .t3 .entries) (c .before .before .before .args .t3 .count) (c .run .given .0 .0)
 there c = found _ zeroInstance _ _ _ (sym (c .before .before .find-instance .ensures) ∙ c .run .given .1)
 
 below : (c : tie.After-run) → c .run .given .0 .0 < 64
-below c = let s = c .before .before .before in omega (arith, there c .below, instances-long (s .args .t3) (s .good .1 .1 .0))
+below c = let s = c .before .before .before in
+    omega (arith, there c .below, instances-long (s .args .t3) (s .good .1 .1 .0))
 
 returns : tie.Need-returns
 unfolding runningPlace runIn mapOption orElse

@@ -1,5 +1,6 @@
 -- `take_grant` meets its contract: at each turn those that stay of the grants passed stand at the front.
-use Rattle.tables.proofs.Kit.{_-_, _≡_, refl, eqb, eq-eqb, ne-eqb, not, ap, _∙_, set, getD, take, arith, needs, Bound, bound, grants-long}
+use Rattle.tables.proofs.Kit.{_-_, _≡_, refl, eqb, eq-eqb, ne-eqb, not, ap, _∙_, set, getD, take, arith, needs}
+use Rattle.tables.proofs.Kit.{Bound, bound, grants-long}
 use Rattle.tables.proofs.Kit.{Squeezed, squeezed-begin, squeezed-keep, squeezed-skip, squeezed-ends}
 use Rattle.state.specs.declared.App.{App}
 use Rattle.tables.specs.Changing.{regrant, withGrants}
@@ -7,12 +8,14 @@ use Rattle.tables.proofs.take_grant.Statement.{statement}
 use Rattle.tables.proofs.take_grant.Tie as tie
 
 abbrev Inv-loop : tie.InvT-loop
-Inv-loop member count n t₀ i₀ k₀ t i k = (t ≡ regrant t₀ (t .grants) (t₀ .granted)) × Squeezed (λ m. not (eqb m member)) (t₀ .grants) n i k (t .grants)
+Inv-loop member count n t₀ i₀ k₀ t i k =
+    (t ≡ regrant t₀ (t .grants) (t₀ .granted)) × Squeezed (λ m. not (eqb m member)) (t₀ .grants) n i k (t .grants)
 
 abbrev μ-loop : tie.MeasureT-loop
 μ-loop member count n t₀ i₀ k₀ t i k = n - i
 
-start : (c : tie.After-within Inv-loop μ-loop) → Bound (c .before .before .args .app .grants) (c .before .before .args .app .granted) (c .within .result)
+start : (c : tie.After-within Inv-loop μ-loop) → Bound (c .before .before .args .app .grants)
+    (c .before .before .args .app .granted) (c .within .result)
 start c = bound _ (grants-long (c .before .before .args .app) (c .before .before .good .0)) (c .within .ensures)
 
 loop-holds : tie.Need-loop-holds Inv-loop μ-loop
@@ -25,8 +28,10 @@ loop-again c =
 
 loop-again-2 : tie.Need-loop-again-2 Inv-loop μ-loop
 loop-again-2 c =
-    let l = c .before .before .before .loop in
-    (ap (λ (a : App). regrant a (set (l .t .grants) (l .k) (getD (l .t .grants) (l .i) 0)) (a .granted)) (l .inv .0), squeezed-keep (l .inv .1) (c .before .before .loop-test .taken) 0 (ap not (ne-eqb _ _ (c .if1 .left))))
+    let l = c .before .before .before .loop in (
+      ap (λ (a : App). regrant a (set (l .t .grants) (l .k) (getD (l .t .grants) (l .i) 0)) (a .granted)) (l .inv .0),
+      squeezed-keep (l .inv .1) (c .before .before .loop-test .taken) 0 (ap not (ne-eqb _ _ (c .if1 .left))),
+    )
 
 returns : tie.Need-returns Inv-loop μ-loop
 returns c =

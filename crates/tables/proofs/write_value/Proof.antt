@@ -10,7 +10,8 @@ use Rattle.tables.proofs.write_value.Statement.{statement}
 use Rattle.tables.proofs.write_value.Tie as tie
 
 abbrev Inv-loop : tie.InvT-loop
-Inv-loop provider uri value n t₀ i₀ t i = (t .count ≡ t₀ .count) × Mapped (put provider uri value) (t₀ .entries) n i (t .entries)
+Inv-loop provider uri value n t₀ i₀ t i =
+    (t .count ≡ t₀ .count) × Mapped (put provider uri value) (t₀ .entries) n i (t .entries)
 
 abbrev μ-loop : tie.MeasureT-loop
 μ-loop provider uri value n t₀ i₀ t i = n - i
@@ -18,7 +19,8 @@ abbrev μ-loop : tie.MeasureT-loop
 abbrev table : List Resource → ℕ → Resources
 table l k = record { entries = l; count = k }
 
-start : (c : tie.After-within Inv-loop μ-loop) → Bound (c .before .args .resources .entries) (c .before .args .resources .count) (c .within .result)
+start : (c : tie.After-within Inv-loop μ-loop) → Bound (c .before .args .resources .entries)
+    (c .before .args .resources .count) (c .within .result)
 start c = bound _ (resources-long (c .before .args .resources) (c .before .good .0)) (c .within .ensures)
 
 loop-holds : tie.Need-loop-holds Inv-loop μ-loop

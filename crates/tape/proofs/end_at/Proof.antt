@@ -12,12 +12,14 @@ returns-2 c = records-many (c .before .before .before .before .pre .0) _ (c .bef
 
 returns-3 : tie.Need-returns-3
 returns-3 c =
-    records-whole (c .before .before .before .before .before .pre .0) _ (c .before .before .before .before .before .pre .1)
+    records-whole (c .before .before .before .before .before .pre .0) _
+    (c .before .before .before .before .before .pre .1)
     (c .before .before .u16-at .ensures) (omega arith) (omega arith)
 
 returns-4 : tie.Need-returns-4
 returns-4 c =
-    records-ill (c .before .before .before .before .before .pre .0) _ (c .before .before .u16-at .ensures) (c .if3 .left)
+    records-ill (c .before .before .before .before .before .pre .0) _ (c .before .before .u16-at .ensures)
+    (c .if3 .left)
 
 pub end-at-spec : {M : Type 1} → statement M
 end-at-spec =

@@ -1,13 +1,13 @@
 -- `step_at` meets its contract: the parts of the tape that it lends are the record's bytes and those handed with it.
 use Rattle.tape.proofs.Kit.{arith, needs}
 use Rattle.monitor.specs.Stepped.{stepped as wholeStep}
-use Rattle.tape.specs.Stepping.{stepping}
+use Rattle.history.specs.Run.{monitorSteps}
 use Rattle.tape.proofs.Handing.{handed-one, handed-none}
 use Rattle.tape.proofs.step_at.Statement.{statement}
 use Rattle.tape.proofs.step_at.Tie as tie
 
 returns : tie.Need-returns
-unfolding stepping wholeStep
+unfolding monitorSteps wholeStep
 returns c =
     let place = c .before .before .before .before in
     let named = place .before .before .before .before in
@@ -17,7 +17,7 @@ returns c =
     (c .before .before .before .u16-at2 .ensures) (c .step-table .ensures)
 
 returns-2 : tie.Need-returns-2
-unfolding stepping wholeStep
+unfolding monitorSteps wholeStep
 returns-2 c =
     let named = c .before .before .before .before .before .before in
     let b = named .before .before in
