@@ -21,3 +21,6 @@ pub mod Ended
 pub mod EndedLaws
 pub mod Security
 pub mod SecurityLaws
+pub mod DecimalLaws
+pub mod Wrong
+pub mod WrongLaws
