@@ -5,5 +5,4 @@ pub mod Starting
 pub mod StartingLaws
 pub mod Installing
 pub mod InstallingLaws
-pub mod LoansLaws
 pub mod Unique

@@ -1,24 +1,20 @@
 -- A loan made anew from an answer for each operation, and what the lends and endings are among the effects of actions.
 use Prim.Native.Nat.{ℕ, _+_, _<_}
-use mathlib.Core.Path.{_≡_, refl}
-use mathlib.Core.Bool.{Bool, true, false, cond}
-use mathlib.Core.List.{List, [], _∷_, _++_, map}
+use mathlib.Core.Path.{_≡_}
+use mathlib.Core.Bool.{Bool, true, false}
+use mathlib.Core.List.{List, map}
 use native.Mathlib.Omega.{arith}
 use borrow.Author.Tests.{lt-ltb, le-ltb}
 use native.Mathlib.Numerals.{add-one}
 use lib.ListN.{length, take, set}
 use lib.Seq.{length-take-le, take-suc-set}
-use lib.Dec.{ltb}
 use Rattle.rules.specs.declared.Loan.{Loan}
-use Rattle.rules.specs.declared.Part.{Part}
 use Rattle.rules.specs.Lists.{any}
-use Rattle.rules.specs.Action.{Receiver, Op, reading, writing, operationsOf, uninstall, stop, lend, withdraw, onApps}
-use Rattle.rules.specs.Action.{onRuns}
-use Rattle.rules.specs.Action.{onLoans}
+use Rattle.rules.specs.Action.{Receiver, Op, reading, writing, operationsOf}
 use Rattle.state.specs.Tables.{isLoan}
-use Rattle.state.specs.Effects.{loanOf, withOperations, kept, reduce, widened, loansAfter}
+use Rattle.state.specs.Effects.{loanOf, withOperations, kept, widened}
 use Rattle.tables.specs.Scan.{Bound}
-use Rattle.loans.specs.Held.{byOp, appended, lendIn, keepsStop, keepsUninstall, keepsWithdraw}
+use Rattle.loans.specs.Held.{byOp, appended, lendIn}
 
 -- ---- one loan: only the answers for the two operations count
 pub with-by : (x : Loan) (f : Op → Bool) {p q : Bool} → p ≡ f reading → q ≡ f writing
@@ -57,29 +53,3 @@ module _ (r : Receiver) (p u o : ℕ) (l : List Loan) where
   pub lend-adds : any (isLoan r p u) l ≡ false → appended (loanOf r p u o) l ≡ lendIn r p u o l
   unfolding lendIn
   lend-adds e = rw e
-
--- ---- the effects of actions
-module _ (ks : List Part) (ls : List Loan) where
-  pub stop-effect : (n : ℕ) → loansAfter ks ls (onRuns (stop n)) ≡ reduce (keepsStop n) ls
-  unfolding loansAfter
-  stop-effect n = refl
-
-  pub uninstall-effect : (b : ℕ) → loansAfter ks ls (onApps (uninstall b)) ≡ reduce (keepsUninstall ks b) ls
-  unfolding loansAfter
-  uninstall-effect b = refl
-
-  pub withdraw-effect : (o p n u : ℕ) → loansAfter ks ls (onLoans (withdraw o p n u)) ≡ reduce (keepsWithdraw p u o) ls
-  unfolding loansAfter
-  withdraw-effect o p n u = refl
-
-  -- where a loan is widened or there is room, as after an accepted lend
-  pub lend-effect : (o p n u : ℕ) (r : Receiver) → (any (isLoan r p u) ls ≡ false → length ls < 128)
-      → loansAfter ks ls (onLoans (lend o p n u r)) ≡ lendIn r p u o ls
-  unfolding loansAfter lendIn appended
-  lend-effect o p n u r room = go (any (isLoan r p u) ls) room
-    where
-      go : (t : Bool) → (t ≡ false → length ls < 128)
-          → cond t (map (widened r p u o) ls) (ls ++ (loanOf r p u o ∷ []))
-          ≡ cond t (map (widened r p u o) ls) (cond (ltb (length ls) 128) (ls ++ (loanOf r p u o ∷ [])) ls)
-      go true h = refl
-      go false h = rw (lt-ltb (length ls) 128 (h refl))

@@ -17,7 +17,7 @@ use Rattle.rules.specs.Lists.{any, all, keep, mem, distinct, test}
 use Rattle.rules.specs.ListsLaws.{and-left, all-mem, all-mono, keep-mem, keep-keep, length-keep, length-map, eqb-sym}
 use Rattle.rules.specs.ListsLaws.{all-keep, mem-all}
 use Rattle.rules.specs.UptoLaws.{no-more, at-most}
-use Rattle.rules.specs.Limits.{Limits, large}
+use Rattle.rules.specs.Limits.{Limits}
 use Rattle.rules.specs.Permissions.{known, dangerous}
 use Rattle.rules.specs.Refusals.{grantable, isGroup}
 use Rattle.state.specs.Tables.{Row, State, appNumber, viewOf}
@@ -150,7 +150,3 @@ module _ (L : Limits) (s : State) (ok : Ok L s) where
 
 pub valid-fits : (L : Limits) (s : State) → valid L s ≡ true → Fits L s
 valid-fits L s h = ok-fits L s (valid→ok L s h)
-
--- the tablet stores at most 256 definitions
-pub large-definitions : (s : State) → valid large s ≡ true → length (s .definitions) ≤ 256
-large-definitions s h = valid-fits large s h .definitions

@@ -9,7 +9,7 @@ use native.Mathlib.Nat.{sub-zero}
 use lib.ListN.{length, take, getD, length-take}
 use lib.Seq.{getD-take}
 use Rattle.rules.specs.Lists.{any, find}
-use Rattle.rules.specs.ListsLaws.{none-any, find-any}
+use Rattle.rules.specs.ListsLaws.{find-any}
 use Rattle.tables.specs.declared.Place.the-variants.{At, Nothing}
 use Rattle.tables.specs.Finding.{placeFrom, placeOf, isAt}
 
@@ -41,9 +41,6 @@ module _ {A : Type 0} (f : A → Bool) where
   -- no entry passes
   pub not-found : (l : List A) → placeOf f l ≡ Nothing → find f l ≡ none
   not-found l e = nowhere 0 l e
-
-  pub not-any : (l : List A) → placeOf f l ≡ Nothing → any f l ≡ false
-  not-any l e = none-any f l (not-found l e)
 
 module _ {A : Type 0} (f : A → Bool) (d : A) where
   record There (i : ℕ) (l : List A) (j : ℕ) : Type 0 where

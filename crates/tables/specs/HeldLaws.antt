@@ -21,7 +21,7 @@ use Rattle.state.specs.Stored.{appFrom, padded, zeroApp, zeroDefinition, zeroPa
 use Rattle.state.specs.Effects.{put, added, taken, grantsAt, groupsAt, keepGrants}
 use Rattle.tables.specs.declared.Change.the-variants.{AddGrant, TakeGrant, AddGroup, TakeGroup}
 use Rattle.tables.specs.Held.{appsTable, definitionsTable, partsTable, resourcesTable, instancesTable}
-use Rattle.tables.specs.Held.{appsIn, definitionsIn, partsIn, resourcesIn, instancesIn}
+use Rattle.tables.specs.Held.{definitionsIn, partsIn, resourcesIn, instancesIn}
 use Rattle.tables.specs.Finding.{isApp}
 use Rattle.tables.specs.RunningLaws.{mask-more, mask-less}
 use Rattle.tables.specs.Changing.{appendApp, appendDefinition, appendPart, appendResource, appendInstance}
@@ -47,9 +47,6 @@ module _ {A : Type 0} (z : A) (n : ℕ) (l : List A) where
   padded-map f = rw (held, drop-append-seam l (replicate (n - length l) z), length-map l f)
 
 -- ---- the list of the table of a list
-pub apps-held : (l : List App) → appsIn (appsTable l) ≡ l
-apps-held l = held _ 16 l
-
 pub definitions-held : (l : List Definition) → definitionsIn (definitionsTable l) ≡ l
 definitions-held l = held _ 256 l
 

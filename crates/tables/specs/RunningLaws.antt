@@ -7,15 +7,14 @@ use mathlib.Core.Option.{Option, none, some}
 use native.Mathlib.Omega.{arith}
 use native.Mathlib.Nat.{pow-suc}
 use native.Mathlib.Numerals.{add-one}
-use borrow.Author.Tests.{lt-ltb, ne-eqb, eqb-true, eqb-false, leb-true}
-use lib.ListN.{length}
-use lib.Count.{trailingZeros, ones, ones-step, under}
+use borrow.Author.Tests.{lt-ltb, ne-eqb, eqb-true, eqb-false}
+use lib.Count.{trailingZeros, under}
 use lib.Dec.{eqb, leb, ltb, leb·suc-suc}
 use lib.Bits.{bitAnd, bitOr, and-step, or-step}
 use Rattle.rules.specs.declared.Instance.{Instance}
-use Rattle.rules.specs.Lists.{any, all, keep, find, distinct, upto, isSome, missing, mapOption}
-use Rattle.rules.specs.ListsLaws.{and-left, and-right, and-true, and-false, eqb-sym, by-eqb, any-append, any-one}
-use Rattle.rules.specs.ListsLaws.{any-keep, any-cong, any-and, all-mono, find-cong, find-any, none-any, counted}
+use Rattle.rules.specs.Lists.{keep, find, upto, isSome, missing, mapOption}
+use Rattle.rules.specs.ListsLaws.{and-true, and-false, eqb-sym, by-eqb, any-append, any-one}
+use Rattle.rules.specs.ListsLaws.{any-keep, any-cong, any-and, find-cong, find-any, none-any}
 use Rattle.rules.specs.Limits.{large}
 use Rattle.rules.specs.Action.{bit}
 use Rattle.rules.specs.Refusals.{freeNumber}
@@ -223,42 +222,3 @@ next-is-free s =
     ∙ ap (find (λ n. not (runs is n))) (upto-from 64)
     ∙ first (λ n. not (runs is n)) 1 64
     ∙ rw (z, b, o)
-
--- ---- how many run
-count : (f : ℕ → Bool) (a k : ℕ) → ones (digitsOf f a k) ≡ length (keep f (from a k))
-unfolding keep from digitsOf
-count f a zero = unfold ones in refl
-count f a (suc k) =
-    ones-step (bit (f a) + 2 * digitsOf f (suc a) k)
-    ∙ rw (low (f a) (digitsOf f (suc a) k), high (f a) (digitsOf f (suc a) k), count f (suc a) k) (go (f a))
-  where
-    go : (t : Bool) → bit t + length (keep f (from (suc a) k))
-        ≡ length (cond t (a ∷ keep f (from (suc a) k)) (keep f (from (suc a) k)))
-    go true = omega arith
-    go false = omega arith
-
-all-distinct : distinct eqb (from 1 64) ≡ true
-unfolding distinct from
-all-distinct = refl
-
-among : (n a k : ℕ) → a ≤ n → n < a + k → any (eqb n) (from a k) ≡ true
-unfolding from
-among n a zero b c = absurd (omega arith)
-among n a (suc k) b c = by-eqb (λ t. t || any (eqb n) (from (suc a) k) ≡ true) n a
-    (λ e. refl) (λ e. among n (suc a) k (lt-ne e) (omega arith))
-  where
-    lt-ne : (n ≡ a → ⊥) → suc a ≤ n
-    lt-ne q = omega arith
-
--- the ones of the running numbers of a valid list are as many as its instances
-pub ones-count : (is : List Instance) → distinct (λ x y. eqb (x .number) (y .number)) is ≡ true
-    → all (λ i. leb 1 (i .number) && leb (i .number) 64) is ≡ true → ones (maskOf is) ≡ length is
-unfolding maskOf
-ones-count is d r =
-    count (runs is) 1 64 ∙ sym (counted (λ (x : Instance). x .number) (from 1 64) all-distinct is d
-    (all-mono (λ i. leb 1 (i .number) && leb (i .number) 64) (λ i. any (eqb (i .number)) (from 1 64)) inside is r))
-  where
-    inside : (i : Instance) → leb 1 (i .number) && leb (i .number) 64 ≡ true → any (eqb (i .number)) (from 1 64) ≡ true
-    inside i e =
-        among (i .number) 1 64 (leb-true 1 (i .number) (and-left (leb 1 (i .number)) (leb (i .number) 64) e))
-        (omega (arith, leb-true (i .number) 64 (and-right (leb 1 (i .number)) (leb (i .number) 64) e)))

@@ -1,16 +1,15 @@
 -- A loop over the places from i up to b of an array: one record as the invariant, one law for each place of the loop.
-use Prim.Native.Nat.{ℕ, suc, _+_, _≤_, _<_, min}
+use Prim.Native.Nat.{ℕ, _+_, _≤_, _<_, min}
 use mathlib.Core.Path.{_≡_, refl, sym, _∙_}
 use mathlib.Core.Bool.{Bool, true, false}
 use mathlib.Core.List.{List, [], _∷_}
-use mathlib.Core.Option.{Option, none, some}
 use native.Mathlib.Numerals.{add-one}
 use native.Mathlib.Omega.{arith}
 use borrow.Author.Tests.{ltb-true, ltb-false}
 use lib.ListN.{length, take, drop, getD, drop-of-length-le}
 use lib.Seq.{slice, slice-cons, length-take-le, take-all}
 use lib.Dec.{ltb}
-use Rattle.rules.specs.Lists.{any, all, find, keep, distinct}
+use Rattle.rules.specs.Lists.{any, all, distinct}
 use Rattle.tables.specs.declared.Place.{Place}
 use Rattle.tables.specs.declared.Place.the-variants.{At, Nothing}
 use Rattle.tables.specs.Finding.{placeFrom, placeOf}
@@ -50,9 +49,6 @@ pub record Each {A : Type 0} (f : A → Bool) (l : List A) (b : ℕ) (whole : Bo
   pub same : whole ≡ all f (slice i b l)
 
 module _ {A : Type 0} {f : A → Bool} {l : List A} {b : ℕ} where
-  pub each-begin : {k : ℕ} → Bound l k b → Each f l b (all f (take k l)) 0
-  each-begin h = record { room = h .room; inside = omega arith; same = rw (h .same) }
-
   pub each-from : (i : ℕ) → b ≤ length l → i ≤ b → Each f l b (all f (slice i b l)) i
   each-from i h g = record { room = h; inside = g; same = refl }
 
@@ -94,29 +90,6 @@ module _ {A : Type 0} {f : A → Bool} {l : List A} {b : ℕ} {whole : Bool} {i 
 
   pub some-ends : b ≤ i → false ≡ whole
   some-ends h = sym (s .same ∙ rw (stop l b i h (s .room)))
-
--- ---- the first entry that passes, handed out
-pub record First {A : Type 0} (f : A → Bool) (l : List A) (b : ℕ) (whole : Option A) (i : ℕ) : Type 0 where
-  pub room : b ≤ length l
-  pub inside : i ≤ b
-  pub same : whole ≡ find f (slice i b l)
-
-module _ {A : Type 0} {f : A → Bool} {l : List A} {b : ℕ} where
-  pub first-begin : {k : ℕ} → Bound l k b → First f l b (find f (take k l)) 0
-  first-begin h = record { room = h .room; inside = omega arith; same = rw (h .same) }
-
-module _ {A : Type 0} {f : A → Bool} {l : List A} {b : ℕ} {whole : Option A} {i : ℕ} (s : First f l b whole i) where
-  pub first-next : i < b → (d : A) → f (getD l i d) ≡ false → First f l b whole (i + 1)
-  unfolding find
-  first-next h d e = record { room = s .room; inside = omega arith; same = s .same ∙ rw (step l b i d h (s .room), e) }
-
-  pub first-hits : i < b → (d : A) → f (getD l i d) ≡ true → whole ≡ some (getD l i d)
-  unfolding find
-  first-hits h d e = s .same ∙ rw (step l b i d h (s .room), e)
-
-  pub first-ends : b ≤ i → whole ≡ none
-  unfolding find
-  first-ends h = s .same ∙ rw (stop l b i h (s .room))
 
 -- ---- the place of the first that passes
 pub record Placed {A : Type 0} (f : A → Bool) (l : List A) (b : ℕ) (whole : Place) (i : ℕ) : Type 0 where
@@ -163,37 +136,3 @@ module _ {A : Type 0} {r : A → A → Bool} {l : List A} {b : ℕ} {whole : Boo
   pub pairs-ends : b ≤ i → true ≡ whole
   unfolding distinct
   pairs-ends h = sym (s .same ∙ rw (stop l b i h (s .room)))
-
--- ---- how many entries pass
-pub record Count {A : Type 0} (f : A → Bool) (l : List A) (b : ℕ) (whole : ℕ) (i k : ℕ) : Type 0 where
-  pub room : b ≤ length l
-  pub inside : i ≤ b
-  pub below : k ≤ i
-  pub same : whole ≡ k + length (keep f (slice i b l))
-
-module _ {A : Type 0} {f : A → Bool} {l : List A} {b : ℕ} where
-  pub count-begin : {k : ℕ} → Bound l k b → Count f l b (length (keep f (take k l))) 0 0
-  count-begin {k} h =
-      let e : length (keep f (take k l)) ≡ length (keep f (slice 0 b l)) = rw (h .same) in
-      record { room = h .room; inside = omega arith; below = omega arith; same = omega arith }
-
-module _ {A : Type 0} {f : A → Bool} {l : List A} {b whole i k : ℕ} (s : Count f l b whole i k) where
-  pub count-hits : i < b → (d : A) → f (getD l i d) ≡ true → Count f l b whole (i + 1) (k + 1)
-  unfolding keep
-  count-hits h d e =
-      let g : whole ≡ k + suc (length (keep f (slice (i + 1) b l))) = s .same ∙ rw (step l b i d h (s .room), e) in
-      record { room = s .room; inside = omega arith; below = omega (arith, s .below); same = omega arith }
-
-  pub count-next : i < b → (d : A) → f (getD l i d) ≡ false → Count f l b whole (i + 1) k
-  unfolding keep
-  count-next h d e =
-      record {
-        room = s .room;
-        inside = omega arith;
-        below = omega (arith, s .below);
-        same = s .same ∙ rw (step l b i d h (s .room), e);
-      }
-
-  pub count-ends : b ≤ i → k ≡ whole
-  unfolding keep
-  count-ends h = let g : whole ≡ k + 0 = s .same ∙ rw (stop l b i h (s .room)) in omega arith

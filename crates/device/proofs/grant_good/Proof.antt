@@ -1,6 +1,6 @@
 -- A permission that is not listed cannot be granted; a listed one can if its definition in force says dangerous.
 use Rattle.rules.specs.Refusals.{grantable}
-use Rattle.rules.specs.Permissions.{known, dangerous}
+use Rattle.rules.specs.Permissions.{known}
 use Rattle.tables.specs.Looking.{viewBy}
 use Rattle.tables.specs.LookingLaws.{look-found, look-none}
 use Rattle.tables.specs.Held.{rowsIn, definitionsIn}
