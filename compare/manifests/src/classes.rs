@@ -1,8 +1,8 @@
 //! The manifests that are compared, in classes: good ones, one class for each rule and the ways to break it just past
 //! its edge, and bytes that were damaged, cut or made by chance.
 
-use crate::manifest::{Component, Manifest, Resource, PROVIDER};
 use crate::random::Random;
+use manifests::manifest::{Component, Manifest, Resource, PROVIDER};
 use std::ops::RangeInclusive;
 
 #[derive(Clone, Copy, PartialEq)]

@@ -2,12 +2,12 @@
 //! The arguments are the command that runs the program `verdicts`.
 
 mod classes;
-mod manifest;
 mod random;
 
 use classes::{Class, Meant};
-use std::io::Write;
-use std::process::{Command, ExitCode, Stdio};
+use manifests::manifest::Manifest;
+use manifests::run;
+use std::process::ExitCode;
 
 /// Of the manifests whose verdicts differ this many are printed.
 const SHOWN: usize = 20;
@@ -16,7 +16,8 @@ const SHOWN: usize = 20;
 const LEAST: usize = 20_000;
 
 fn main() -> ExitCode {
-    let command: Vec<String> = std::env::args().skip(1).collect();
+    let words: Vec<String> = std::env::args().skip(1).collect();
+    let command: Vec<&str> = words.iter().map(String::as_str).collect();
     if command.is_empty() {
         eprintln!("usage: manifests COMMAND WORD..");
         return ExitCode::from(2);
@@ -30,21 +31,22 @@ fn main() -> ExitCode {
     }
 }
 
-fn compare(command: &[String]) -> Result<(), String> {
+fn compare(command: &[&str]) -> Result<(), String> {
     let classes = classes::all();
-    let answers = ask(command, &stream(&classes))?;
+    let answers = run(command, &stream(&classes))?;
+    let answers: Vec<&str> = answers.lines().collect();
     let total = classes.iter().map(|class| class.manifests.len()).sum();
     if answers.len() != total {
         return Err(format!("{} answers to {total} manifests, the last {:?}", answers.len(), answers.last()));
     }
-    let mut answers = answers.iter();
+    let mut answers = answers.into_iter();
     let mut differ = 0;
     let mut unmeant = 0;
     println!("{:36} {:>7} {:>7}", "class", "good", "bad");
     for class in &classes {
         let mut good = 0;
         for bytes in &class.manifests {
-            let ours = if manifest::is_good(bytes) { "0" } else { "3" };
+            let ours = if Manifest::read(bytes).is_some() { "0" } else { "3" };
             let theirs = answers.next().unwrap();
             good += usize::from(ours == "0");
             if theirs != ours {
@@ -86,30 +88,6 @@ fn stream(classes: &[Class]) -> Vec<u8> {
         out.extend(bytes);
     }
     out
-}
-
-/// The lines that the command answers to the stream.
-fn ask(command: &[String], stream: &[u8]) -> Result<Vec<String>, String> {
-    let mut child = Command::new(&command[0])
-        .args(&command[1..])
-        .stdin(Stdio::piped())
-        .stdout(Stdio::piped())
-        .spawn()
-        .map_err(|error| format!("{}: {error}", command[0]))?;
-    let mut input = child.stdin.take().expect("the input is piped");
-    // both at once, since either pipe may fill up
-    let (sent, output) = std::thread::scope(|scope| {
-        let sender = scope.spawn(move || input.write_all(stream));
-        let output = child.wait_with_output();
-        (sender.join().expect("the sender does not panic"), output)
-    });
-    let output = output.map_err(|error| error.to_string())?;
-    if !output.status.success() {
-        return Err(format!("{} ended with {}", command[0], output.status));
-    }
-    sent.map_err(|error| format!("{} did not take the stream: {error}", command[0]))?;
-    let text = String::from_utf8(output.stdout).map_err(|error| error.to_string())?;
-    Ok(text.lines().map(str::to_string).collect())
 }
 
 fn hex(bytes: &[u8]) -> String {

@@ -1,6 +1,21 @@
-//! A manifest and its bytes, and whether bytes form a good one: document 01, "The manifest, in sections".
+//! A manifest and its bytes, and when it is a good one: document 01, "The manifest, in sections".
 
-#[derive(Clone, Default)]
+pub const NORMAL: u8 = 0;
+pub const DANGEROUS: u8 = 1;
+pub const SIGNATURE: u8 = 2;
+pub const SIGNATURE_OR_SYSTEM: u8 = 3;
+
+pub const ACTIVITY: u8 = 1;
+pub const SERVICE: u8 = 2;
+pub const RECEIVER: u8 = 3;
+pub const PROVIDER: u8 = 4;
+
+pub const MOST_USES: usize = 32;
+pub const MOST_DEFINES: usize = 16;
+pub const MOST_COMPONENTS: usize = 16;
+pub const MOST_RESOURCES: usize = 32;
+
+#[derive(Clone, Default, PartialEq, Debug)]
 pub struct Manifest {
     pub app: u16,
     pub signer: u32,
@@ -10,14 +25,14 @@ pub struct Manifest {
     pub resources: Vec<Resource>,
 }
 
-#[derive(Clone, Copy)]
+#[derive(Clone, Copy, PartialEq, Debug)]
 pub struct Define {
     pub permission: u8,
     pub level: u8,
     pub group: u8,
 }
 
-#[derive(Clone, Copy)]
+#[derive(Clone, Copy, Default, PartialEq, Debug)]
 pub struct Component {
     pub number: u16,
     pub kind: u8,
@@ -28,36 +43,29 @@ pub struct Component {
     pub write: u8,
 }
 
-#[derive(Clone, Copy)]
+#[derive(Clone, Copy, PartialEq, Debug)]
 pub struct Resource {
     pub provider: u16,
     pub uri: u16,
     pub first: u32,
 }
 
-pub const DANGEROUS: u8 = 1;
-pub const PROVIDER: u8 = 4;
-
-pub fn is_good(bytes: &[u8]) -> bool {
-    Manifest::read(bytes).is_some_and(|manifest| manifest.keeps_the_rules())
-}
-
 impl Manifest {
-    /// The manifest in `bytes`, where each section has at most its most and no byte is missing or left over.
-    fn read(bytes: &[u8]) -> Option<Manifest> {
+    /// The manifest that the bytes form, where it is a good one.
+    pub fn read(bytes: &[u8]) -> Option<Manifest> {
         let mut input = Input(bytes);
         let manifest = Manifest {
             app: input.u16()?,
             signer: input.u32()?,
-            uses: input.section(32, Input::u8)?,
-            defines: input.section(16, Input::define)?,
-            components: input.section(16, Input::component)?,
-            resources: input.section(32, Input::resource)?,
+            uses: input.section(MOST_USES, Input::u8)?,
+            defines: input.section(MOST_DEFINES, Input::define)?,
+            components: input.section(MOST_COMPONENTS, Input::component)?,
+            resources: input.section(MOST_RESOURCES, Input::resource)?,
         };
-        input.0.is_empty().then_some(manifest)
+        (input.0.is_empty() && manifest.is_good()).then_some(manifest)
     }
 
-    fn keeps_the_rules(&self) -> bool {
+    fn is_good(&self) -> bool {
         self.app != 0
             && self.signer != 0
             && rises(&self.uses, |&permission| permission)
@@ -68,10 +76,6 @@ impl Manifest {
             && self.defines.iter().all(Define::is_good)
             && self.components.iter().all(Component::is_good)
             && self.resources.iter().all(|resource| resource.uri != 0 && self.has_provider(resource.provider))
-    }
-
-    fn has_provider(&self, number: u16) -> bool {
-        self.components.iter().any(|component| component.number == number && component.kind == PROVIDER)
     }
 
     pub fn bytes(&self) -> Vec<u8> {
@@ -96,12 +100,32 @@ impl Manifest {
         }
         out
     }
+
+    pub fn lists(&self, permission: u16) -> bool {
+        self.uses.iter().any(|&used| u16::from(used) == permission)
+    }
+
+    pub fn define(&self, permission: u16) -> Option<&Define> {
+        self.defines.iter().find(|define| u16::from(define.permission) == permission)
+    }
+
+    pub fn component(&self, number: u16) -> Option<&Component> {
+        self.components.iter().find(|component| component.number == number)
+    }
+
+    pub fn has_provider(&self, number: u16) -> bool {
+        self.component(number).is_some_and(|component| component.kind == PROVIDER)
+    }
+
+    pub fn resource(&self, provider: u16, uri: u16) -> Option<&Resource> {
+        self.resources.iter().find(|resource| (resource.provider, resource.uri) == (provider, uri))
+    }
 }
 
 impl Define {
     fn is_good(&self) -> bool {
         (16..=63).contains(&self.permission)
-            && self.level <= 3
+            && self.level <= SIGNATURE_OR_SYSTEM
             && self.group <= 15
             && (self.group == 0 || self.level == DANGEROUS)
     }
@@ -112,7 +136,7 @@ impl Component {
         let other_fields =
             if self.kind == PROVIDER { self.start == 0 } else { (self.shares, self.read, self.write) == (0, 0, 0) };
         self.number != 0
-            && (1..=4).contains(&self.kind)
+            && (ACTIVITY..=PROVIDER).contains(&self.kind)
             && self.exported <= 1
             && self.shares <= 1
             && [self.start, self.read, self.write].iter().all(|&permission| permission <= 63)
@@ -145,8 +169,8 @@ impl Input<'_> {
         self.take().map(u32::from_le_bytes)
     }
 
-    fn section<T>(&mut self, most: u8, entry: impl Fn(&mut Self) -> Option<T>) -> Option<Vec<T>> {
-        let count = self.u8().filter(|&count| count <= most)?;
+    fn section<T>(&mut self, most: usize, entry: impl Fn(&mut Self) -> Option<T>) -> Option<Vec<T>> {
+        let count = self.u8().filter(|&count| usize::from(count) <= most)?;
         (0..count).map(|_| entry(self)).collect()
     }
 
@@ -175,27 +199,47 @@ mod tests {
 
     #[test]
     fn the_sampler_is_good() {
-        assert!(is_good(SAMPLER));
-        let manifest = Manifest::read(SAMPLER).unwrap();
-        assert_eq!((manifest.app, manifest.signer, manifest.uses.len(), manifest.defines.len()), (10, 5, 0, 0));
-        assert_eq!(
-            manifest.components.iter().map(|c| (c.number, c.kind)).collect::<Vec<_>>(),
-            [(100, 1), (101, PROVIDER)]
-        );
-        assert_eq!(manifest.resources.iter().map(|r| (r.provider, r.uri, r.first)).collect::<Vec<_>>(), [(101, 1, 0)]);
-        assert_eq!(manifest.bytes(), SAMPLER);
+        let sampler = Manifest {
+            app: 10,
+            signer: 5,
+            components: vec![
+                Component { number: 100, kind: ACTIVITY, exported: 1, ..Component::default() },
+                Component { number: 101, kind: PROVIDER, ..Component::default() },
+            ],
+            resources: vec![Resource { provider: 101, uri: 1, first: 0 }],
+            ..Manifest::default()
+        };
+        assert_eq!(sampler.bytes(), SAMPLER);
+        assert_eq!(Manifest::read(SAMPLER), Some(sampler));
     }
 
     #[test]
     fn fewer_or_more_bytes_are_not() {
-        assert!((0..34).all(|length| !is_good(&SAMPLER[..length])));
-        assert!(!is_good(&[&SAMPLER[..], &[0]].concat()));
+        assert!((0..34).all(|length| Manifest::read(&SAMPLER[..length]).is_none()));
+        assert!(Manifest::read(&[&SAMPLER[..], &[0]].concat()).is_none());
     }
 
     #[test]
-    fn a_resource_of_the_activity_is_not() {
-        let mut bytes = *SAMPLER;
-        bytes[26] = 100;
-        assert!(!is_good(&bytes));
+    fn a_broken_rule_is_seen() {
+        let broken = [
+            (0, 0),    // app 0
+            (2, 0),    // signer 0
+            (11, 0),   // no kind
+            (11, 5),   // no kind
+            (12, 2),   // exported 2
+            (13, 1),   // an activity that shares
+            (14, 64),  // permission 64
+            (15, 1),   // an activity with a read permission
+            (17, 100), // the same component twice
+            (19, 3),   // a resource without its provider
+            (22, 1),   // a provider with a start permission
+            (26, 100), // a resource of an activity
+            (28, 0),   // URI 0
+        ];
+        for (place, byte) in broken {
+            let mut bytes = *SAMPLER;
+            bytes[place] = byte;
+            assert!(Manifest::read(&bytes).is_none(), "byte {place} is {byte}");
+        }
     }
 }

@@ -1,6 +1,6 @@
 //! Numbers and good manifests by chance, the same in every run.
 
-use crate::manifest::{Component, Define, Manifest, Resource, DANGEROUS, PROVIDER};
+use manifests::manifest::{Component, Define, Manifest, Resource, DANGEROUS, PROVIDER};
 use std::collections::BTreeSet;
 use std::ops::RangeInclusive;
 

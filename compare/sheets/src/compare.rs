@@ -3,11 +3,9 @@
 use crate::answer::sheet_text;
 use crate::plans::{self, Made};
 use crate::tally::Tally;
-use crate::{rules, tables};
+use crate::{rules, run, tables};
 use std::fs;
-use std::io::{ErrorKind, Write};
-use std::path::Path;
-use std::process::{Command, Stdio};
+use std::path::{Path, PathBuf};
 
 /// Fewer tapes than these compare too little.
 const LEAST: usize = 1_500;
@@ -25,7 +23,7 @@ pub enum Way {
 }
 
 /// Compares on the tapes of `plans`, and gives the line that says so.
-pub fn compare(way: Way, command: &[String]) -> Result<String, String> {
+pub fn compare(way: Way, command: &[&str]) -> Result<String, String> {
     let mut tally = Tally::new();
     let tapes = plans::all(&mut tally);
     let wrong = tally.report();
@@ -79,7 +77,7 @@ fn first_difference<'s>(ours: &'s str, theirs: &'s str) -> (usize, &'s str, &'s 
     }
 }
 
-fn sheets_of(way: Way, command: &[String], tapes: &[Made]) -> Result<Vec<String>, String> {
+fn sheets_of(way: Way, command: &[&str], tapes: &[Made]) -> Result<Vec<String>, String> {
     if way == Way::Single {
         return tapes.iter().map(|tape| run(command, &tape.bytes)).collect();
     }
@@ -115,33 +113,6 @@ fn sheets_in(answer: &str) -> Vec<String> {
     sheets
 }
 
-/// What the command prints when it is given the input.
-pub fn run(command: &[String], input: &[u8]) -> Result<String, String> {
-    let mut child = Command::new(&command[0])
-        .args(&command[1..])
-        .stdin(Stdio::piped())
-        .stdout(Stdio::piped())
-        .spawn()
-        .map_err(|error| format!("{}: {error}", command[0]))?;
-    let mut pipe = child.stdin.take().expect("the input is piped");
-    // both at once, since either pipe may fill up
-    let (sent, output) = std::thread::scope(|scope| {
-        let sender = scope.spawn(move || pipe.write_all(input));
-        let output = child.wait_with_output();
-        (sender.join().expect("the sender does not panic"), output)
-    });
-    let output = output.map_err(|error| format!("{}: {error}", command[0]))?;
-    if !output.status.success() {
-        let lines = output.stdout.iter().filter(|&&byte| byte == b'\n').count();
-        return Err(format!("{} ended with {} after {lines} lines", command[0], output.status));
-    }
-    match sent {
-        // a program may stop reading once it knows that the tape is refused
-        Err(error) if error.kind() != ErrorKind::BrokenPipe => Err(format!("{}: {error}", command[0])),
-        _ => String::from_utf8(output.stdout).map_err(|error| format!("{}: {error}", command[0])),
-    }
-}
-
 /// The sheets of a stream, each with its `.`, or why the stream is none.
 pub fn answer_stream(mut stream: &[u8], sheet: fn(&[u8]) -> String) -> Result<String, String> {
     let mut out = String::new();
@@ -156,14 +127,18 @@ pub fn answer_stream(mut stream: &[u8], sheet: fn(&[u8]) -> String) -> Result<St
     Ok(out)
 }
 
+/// The files NAME.tape in the folder.
+pub fn tapes_in(folder: &Path) -> Result<Vec<PathBuf>, String> {
+    let files = fs::read_dir(folder).map_err(|error| format!("{}: {error}", folder.display()))?;
+    let paths = files.filter_map(|entry| Some(entry.ok()?.path()));
+    let mut tapes: Vec<PathBuf> = paths.filter(|path| path.extension().is_some_and(|end| end == "tape")).collect();
+    tapes.sort();
+    Ok(tapes)
+}
+
 /// Checks each NAME.tape in the folder against its NAME.sheet, both ways, and gives the line that says so.
 pub fn vectors(folder: &Path) -> Result<String, String> {
-    let mut tapes: Vec<_> = fs::read_dir(folder)
-        .map_err(|error| format!("{}: {error}", folder.display()))?
-        .filter_map(|entry| Some(entry.ok()?.path()))
-        .filter(|path| path.extension().is_some_and(|extension| extension == "tape"))
-        .collect();
-    tapes.sort();
+    let tapes = tapes_in(folder)?;
     let mut failed = 0;
     for path in &tapes {
         let read = |path: &Path| fs::read(path).map_err(|error| format!("{}: {error}", path.display()));

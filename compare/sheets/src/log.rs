@@ -212,7 +212,7 @@ impl<'l> Log<'l> {
         let permission = if operation == READ { provider.read } else { provider.write };
         if owner.manifest.app == app.manifest.app {
             Some(1)
-        } else if provider.exported && (permission == 0 || self.holds(app, permission.into())) {
+        } else if provider.exported == 1 && (permission == 0 || self.holds(app, permission.into())) {
             Some(2)
         } else if self.is_lent(Receiver::Instance(instance), resource, operation) {
             Some(3)

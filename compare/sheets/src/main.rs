@@ -25,9 +25,9 @@ fn main() -> ExitCode {
         ["stream", "--tables"] => input().and_then(|stream| answer_stream(&stream, from_the_tables)).map(String::into),
         ["vectors", folder] => vectors(Path::new(folder)).map(said),
         ["tape", number] => tape(number),
-        ["compare", "--single", ref command @ ..] if !command.is_empty() => held_against(Way::Single, command),
-        ["compare", "--stream", ref command @ ..] if !command.is_empty() => held_against(Way::Stream, command),
-        ["compare", ref command @ ..] if !command.is_empty() => held_against(Way::Stream, command),
+        ["compare", "--single", ref command @ ..] if !command.is_empty() => compare(Way::Single, command).map(said),
+        ["compare", "--stream", ref command @ ..] if !command.is_empty() => compare(Way::Stream, command).map(said),
+        ["compare", ref command @ ..] if !command.is_empty() => compare(Way::Stream, command).map(said),
         _ => {
             eprintln!("{USAGE}");
             return ExitCode::from(2);
@@ -61,11 +61,6 @@ fn tape(number: &str) -> Result<Vec<u8>, String> {
     let place = number.parse().ok().and_then(|number: usize| number.checked_sub(1));
     let tape = place.and_then(|place| tapes.into_iter().nth(place));
     tape.map(|tape| tape.bytes).ok_or(format!("no tape has the number {number}"))
-}
-
-fn held_against(way: Way, command: &[&str]) -> Result<Vec<u8>, String> {
-    let command: Vec<String> = command.iter().map(|word| word.to_string()).collect();
-    compare(way, &command).map(said)
 }
 
 fn said(line: String) -> Vec<u8> {

@@ -6,7 +6,7 @@ use crate::random::Random;
 use crate::tables::{App, Loan, Tables, MOST_APPS, MOST_LOANS, MOST_RUNNING};
 use crate::tally::Tally;
 use crate::tape::{code, Action, Tape, BOTH, MOST_ACTIONS, MOST_MANIFESTS, MOST_MANIFEST_BYTES, READ, WRITE};
-use crate::worlds::{damaged, manifests, Shape};
+use crate::worlds::{manifests, Shape};
 
 /// A tape's bytes and the plan that it was made by. No tape is longer than the longest good one and a byte, so that a
 /// program which reads that much has seen all it needs.
@@ -17,20 +17,14 @@ pub struct Made {
 
 const SEED: u64 = 20_160_601;
 
-struct Plan {
-    name: &'static str,
-    tapes: usize,
-    shape: Shape,
-    /// how many of the manifests are damaged
-    damaged: usize,
-    fill: fn(&mut Maker),
-    /// codes, each as often as it is to be chosen
-    mix: &'static [(u8, usize)],
-    /// least and most actions of the mix
-    actions: (usize, usize),
-}
+/// Codes, each as often as it is to be chosen.
+type Mix = &'static [(u8, usize)];
 
-const EVEN: &[(u8, usize)] = &[
+/// A name, how many tapes, the shape of their manifests, how many more of these are broken, what fills the tables, and
+/// the mix after that with its least and most actions.
+struct Plan(&'static str, usize, Shape, usize, fn(&mut Maker), Mix, (usize, usize));
+
+const EVEN: Mix = &[
     (code::INSTALL, 6),
     (code::UNINSTALL, 5),
     (code::GRANT, 6),
@@ -48,7 +42,7 @@ const EVEN: &[(u8, usize)] = &[
     (DAMAGED, 3),
 ];
 
-const PERMISSIONS: &[(u8, usize)] = &[
+const PERMISSIONS: Mix = &[
     (code::INSTALL, 14),
     (code::UNINSTALL, 10),
     (code::GRANT, 14),
@@ -61,7 +55,7 @@ const PERMISSIONS: &[(u8, usize)] = &[
     (code::ASK, 16),
 ];
 
-const LOANS: &[(u8, usize)] = &[
+const LOANS: Mix = &[
     (code::START, 6),
     (code::STOP, 3),
     (code::READ, 10),
@@ -74,10 +68,10 @@ const LOANS: &[(u8, usize)] = &[
     (code::UNINSTALL, 1),
 ];
 
-const INSTALLS: &[(u8, usize)] =
+const INSTALLS: Mix =
     &[(code::INSTALL, 20), (code::UNINSTALL, 8), (code::START, 3), (code::STOP, 3), (code::READ, 4), (code::ASK, 3)];
 
-const STARTS: &[(u8, usize)] = &[
+const STARTS: Mix = &[
     (code::START, 24),
     (code::STOP, 8),
     (code::LEND_TO_INSTANCE, 8),
@@ -87,9 +81,16 @@ const STARTS: &[(u8, usize)] = &[
     (code::WITHDRAW, 2),
 ];
 
-const RECORDS: &[(u8, usize)] = &[(DAMAGED, 10), (code::INSTALL, 2), (code::START, 2), (code::READ, 2), (code::ASK, 2)];
+const RECORDS: Mix = &[(DAMAGED, 10), (code::INSTALL, 2), (code::START, 2), (code::READ, 2), (code::ASK, 2)];
 
-const MIXED: Shape = Shape::MIXED;
+const MIXED: Shape = Shape {
+    apps: 7,
+    again: 5,
+    defines: &[0, 1, 2, 3],
+    components: &[1, 2, 3, 4, 5, 6],
+    resources: &[0, 1, 2, 3, 4, 6],
+    clashes: 8,
+};
 const SMALL_APPS: Shape =
     Shape { apps: 20, again: 8, defines: &[0, 1], components: &[0, 1, 2, 3], resources: &[0, 1, 2, 4], clashes: 4 };
 const MANY_COMPONENTS: Shape = Shape { apps: 7, again: 1, components: &[16, 16, 16, 15, 1], clashes: 0, ..MIXED };
@@ -103,33 +104,21 @@ const LENDERS: Shape =
     Shape { apps: 5, again: 0, components: &[4, 6, 8], resources: &[4, 6, 8, 10], clashes: 0, ..MIXED };
 
 const PLANS: &[Plan] = &[
-    plan("mixed", 520, MIXED, 1, install_some, EVEN, (20, 220)),
-    plan("definers", 200, DEFINERS, 0, install_some, PERMISSIONS, (30, 200)),
-    plan("returning definers", 80, RETURNERS, 0, bring_definers_back, PERMISSIONS, (20, 60)),
-    plan("apps", 90, SMALL_APPS, 0, fill_apps, INSTALLS, (20, 60)),
-    plan("components", 70, MANY_COMPONENTS, 0, fill_apps, INSTALLS, (20, 60)),
-    plan("resources", 70, MANY_RESOURCES, 0, fill_apps, INSTALLS, (20, 60)),
-    plan("instances", 110, LENDERS, 0, fill_running, STARTS, (30, 120)),
-    plan("used numbers", 60, LENDERS, 0, use_numbers_again, STARTS, (20, 60)),
-    plan("loans", 110, LENDERS, 0, fill_loans, LOANS, (30, 120)),
-    plan("chains", 110, LENDERS, 0, lend_on, LOANS, (30, 120)),
-    plan("damaged manifests", 90, MIXED, 12, install_some, INSTALLS, (20, 60)),
-    plan("damaged records", 70, MIXED, 2, install_some, RECORDS, (20, 60)),
-    plan("long", 12, MIXED, 20, install_some, EVEN, (900, 1_400)),
-    plan("longest", 4, LENDERS, 0, fill_loans, EVEN, (2_048, 2_048)),
+    Plan("mixed", 520, MIXED, 1, install_some, EVEN, (20, 220)),
+    Plan("definers", 200, DEFINERS, 0, install_some, PERMISSIONS, (30, 200)),
+    Plan("returning definers", 80, RETURNERS, 0, bring_definers_back, PERMISSIONS, (20, 60)),
+    Plan("apps", 90, SMALL_APPS, 0, fill_apps, INSTALLS, (20, 60)),
+    Plan("components", 70, MANY_COMPONENTS, 0, fill_apps, INSTALLS, (20, 60)),
+    Plan("resources", 70, MANY_RESOURCES, 0, fill_apps, INSTALLS, (20, 60)),
+    Plan("instances", 110, LENDERS, 0, fill_running, STARTS, (30, 120)),
+    Plan("used numbers", 60, LENDERS, 0, use_numbers_again, STARTS, (20, 60)),
+    Plan("loans", 110, LENDERS, 0, fill_loans, LOANS, (30, 120)),
+    Plan("chains", 110, LENDERS, 0, lend_on, LOANS, (30, 120)),
+    Plan("damaged manifests", 90, MIXED, 12, install_some, INSTALLS, (20, 60)),
+    Plan("damaged records", 70, MIXED, 2, install_some, RECORDS, (20, 60)),
+    Plan("long", 12, MIXED, 20, install_some, EVEN, (900, 1_400)),
+    Plan("longest", 4, LENDERS, 0, fill_loans, EVEN, (2_048, 2_048)),
 ];
-
-const fn plan(
-    name: &'static str,
-    tapes: usize,
-    shape: Shape,
-    damaged: usize,
-    fill: fn(&mut Maker),
-    mix: &'static [(u8, usize)],
-    actions: (usize, usize),
-) -> Plan {
-    Plan { name, tapes, shape, damaged, fill, mix, actions }
-}
 
 /// Damaged tapes of each kind.
 const EACH_DAMAGE: usize = 20;
@@ -137,33 +126,24 @@ const EACH_DAMAGE: usize = 20;
 pub fn all(tally: &mut Tally) -> Vec<Made> {
     let mut random = Random::new(SEED);
     let mut made = Vec::new();
-    for plan in PLANS {
-        made.extend((0..plan.tapes).map(|_| plan.make(&mut random, tally)));
+    for &Plan(plan, tapes, shape, broken, fill, codes, (least, most)) in PLANS {
+        for _ in 0..tapes {
+            let manifests = manifests(&mut random, shape, broken);
+            let mut maker = Maker::new(&mut random, tally, manifests);
+            fill(&mut maker);
+            for _ in 0..maker.random.within(least, most) {
+                mix(&mut maker, codes);
+            }
+            made.push(Made { plan, bytes: maker.tape().bytes() });
+        }
     }
     let good: Vec<Vec<u8>> = made.iter().map(|made| made.bytes.clone()).collect();
     made.extend(damaged_tapes(&mut random, tally, &good));
     made
 }
 
-impl Plan {
-    fn make(&self, random: &mut Random, tally: &mut Tally) -> Made {
-        let all = manifests(random, self.shape);
-        let mut bytes: Vec<Vec<u8>> = all.iter().map(|manifest| manifest.bytes()).collect();
-        for _ in 0..self.damaged {
-            let place = random.below(all.len());
-            bytes.push(damaged(random, &all[place]));
-        }
-        let mut maker = Maker::new(random, tally, bytes);
-        (self.fill)(&mut maker);
-        for _ in 0..maker.random.within(self.actions.0, self.actions.1) {
-            mix(&mut maker, self.mix);
-        }
-        Made { plan: self.name, bytes: maker.tape().bytes() }
-    }
-}
-
 /// One action, of six that the mix brings: the first that is done, or the one whose like was seen least.
-fn mix(maker: &mut Maker, codes: &[(u8, usize)]) {
+fn mix(maker: &mut Maker, codes: Mix) {
     let candidates: Vec<Action> = (0..6)
         .map(|_| {
             let code = weighted(maker.random, codes);
@@ -176,7 +156,7 @@ fn mix(maker: &mut Maker, codes: &[(u8, usize)]) {
     maker.act(*chosen.expect("there are six"));
 }
 
-fn weighted(random: &mut Random, codes: &[(u8, usize)]) -> u8 {
+fn weighted(random: &mut Random, codes: Mix) -> u8 {
     let mut at = random.below(codes.iter().map(|(_, weight)| weight).sum());
     for &(code, weight) in codes {
         if at < weight {

@@ -137,11 +137,11 @@ fn start(log: Log, component: u16, caller: u16) -> Answer {
     let found = log.component(component).filter(|(_, component)| component.kind != PROVIDER);
     let (owner, component) = found.ok_or(Refusal::NoComponent)?;
     let permitted = if caller == 0 {
-        component.exported && component.kind == ACTIVITY
+        component.exported == 1 && component.kind == ACTIVITY
     } else {
         let app = log.app_of(caller).ok_or(Refusal::NoInstance)?;
         let may = component.start == 0 || log.holds(app, component.start.into());
-        app.manifest.app == owner.manifest.app || component.exported && may
+        app.manifest.app == owner.manifest.app || component.exported == 1 && may
     };
     demand(permitted, Refusal::NotPermitted)?;
     log.lowest_free_number().map(|number| done(number.into())).ok_or(Refusal::NoRoom)
@@ -182,7 +182,7 @@ fn lend(log: Log, action: &Action) -> Answer {
     }
     let provider = provider(log, action)?;
     let mut grounds = log.grounds(action.c, resource(action), action.a);
-    demand(provider.shares && grounds.all(|ground| ground.is_some()), Refusal::NotPermitted)?;
+    demand(provider.shares == 1 && grounds.all(|ground| ground.is_some()), Refusal::NotPermitted)?;
     demand(log.has_loan(receiver, resource(action)) || log.loans() < MOST_LOANS, Refusal::NoRoom)?;
     Ok(done(0))
 }

@@ -352,12 +352,12 @@ impl Step<'_> {
     }
 
     fn person_starts_no_activity(&self) -> bool {
-        let exported = self.before.component(self.action.b).is_some_and(|component| component.row.exported);
+        let exported = self.before.component(self.action.b).is_some_and(|component| component.row.exported == 1);
         self.refused(code::START) && self.action.c == 0 && exported
     }
 
     fn guard_is_undefined(&self) -> bool {
-        let guard = self.before.component(self.action.b).filter(|row| row.row.exported).map(|row| row.row.read);
+        let guard = self.before.component(self.action.b).filter(|row| row.row.exported == 1).map(|row| row.row.read);
         guard.is_some_and(|guard| guard != 0 && self.before.definition(guard.into()).is_none())
     }
 }

@@ -237,10 +237,10 @@ impl Tables {
         found.add_if(self.running.len() == MOST_RUNNING, Refusal::NoRoom);
         let Some(Owned { app: owner, row: component }) = component else { return };
         if action.c == 0 {
-            let may = component.exported && component.kind == ACTIVITY;
+            let may = component.exported == 1 && component.kind == ACTIVITY;
             found.add_if(!may, Refusal::NotPermitted);
         } else if let Some(caller) = caller {
-            let may = component.exported && self.meets(caller.app, component.start);
+            let may = component.exported == 1 && self.meets(caller.app, component.start);
             found.add_if(caller.app != *owner && !may, Refusal::NotPermitted);
         }
     }
@@ -260,7 +260,7 @@ impl Tables {
         let full = self.loans.len() == MOST_LOANS && !self.loans.iter().any(|loan| loan.is_of(action));
         found.add_if(lends && full, Refusal::NoRoom);
         let (Some(provider), Some(instance)) = (provider, instance) else { return };
-        found.add_if(lends && !provider.row.shares, Refusal::NotPermitted);
+        found.add_if(lends && provider.row.shares == 0, Refusal::NotPermitted);
         let last = if action.code == code::WITHDRAW { 2 } else { 4 };
         let has_a_ground = |operation| (1..=last).contains(&self.ground(provider, instance, action.d, operation));
         let permitted = (0..2).all(|bit| operations(action) >> bit & 1 == 0 || has_a_ground(1 << bit));
@@ -332,7 +332,7 @@ impl Tables {
         };
         let grounds = [
             provider.app == instance.app,
-            provider.row.exported && self.meets(instance.app, needed),
+            provider.row.exported == 1 && self.meets(instance.app, needed),
             lent(false, instance.number),
             lent(true, instance.app),
         ];

@@ -20,20 +20,17 @@ pub struct Shape {
     pub clashes: usize,
 }
 
-impl Shape {
-    pub const MIXED: Shape = Shape {
-        apps: 7,
-        again: 5,
-        defines: &[0, 1, 2, 3],
-        components: &[1, 2, 3, 4, 5, 6],
-        resources: &[0, 1, 2, 3, 4, 6],
-        clashes: 8,
-    };
-}
-
-pub fn manifests(r: &mut Random, shape: Shape) -> Vec<Manifest> {
+/// Manifests of the shape as bytes, and after them so many of the same with one thing broken.
+pub fn manifests(r: &mut Random, shape: Shape, broken: usize) -> Vec<Vec<u8>> {
     let again: Vec<usize> = (0..shape.again).map(|_| r.within(1, shape.apps)).collect();
-    (1..=shape.apps).chain(again).map(|app| manifest(r, shape, app)).collect()
+    let apps = (1..=shape.apps).chain(again);
+    let mut all: Vec<Vec<u8>> = apps.map(|app| manifest(r, shape, app).bytes()).collect();
+    let good = all.len();
+    for _ in 0..broken {
+        let place = r.below(good);
+        all.push(damaged(r, all[place].clone()));
+    }
+    all
 }
 
 /// Every fourth app has a number whose low byte is another app's.
@@ -100,10 +97,10 @@ fn components(r: &mut Random, shape: Shape, app: usize) -> Vec<Component> {
 
 fn component(r: &mut Random, shape: Shape, number: u16) -> Component {
     let kind = r.pick(&[1, 1, 1, 2, 3, 4, 4, 4, 4]);
-    let component = Component { number, kind, exported: r.chance(65), ..Component::default() };
+    let component = Component { number, kind, exported: r.chance(65).into(), ..Component::default() };
     if kind == PROVIDER {
         let (read, write) = (guard(r, shape), guard(r, shape));
-        Component { shares: r.chance(75), read, write, ..component }
+        Component { shares: r.chance(75).into(), read, write, ..component }
     } else {
         Component { start: guard(r, shape), ..component }
     }
@@ -129,8 +126,7 @@ fn resources(r: &mut Random, shape: Shape, components: &[Component]) -> Vec<Reso
 }
 
 /// The bytes of a manifest with one thing broken: mostly a byte changed, else cut, grown or made of chance.
-pub fn damaged(r: &mut Random, manifest: &Manifest) -> Vec<u8> {
-    let mut bytes = manifest.bytes();
+fn damaged(r: &mut Random, mut bytes: Vec<u8>) -> Vec<u8> {
     match r.below(10) {
         0 => bytes.truncate(r.below(bytes.len())),
         1 => bytes.extend((0..r.within(1, 9)).map(|_| 0)),

@@ -11,9 +11,7 @@ fn say(line: &str) {
     writeln!(std::io::stderr(), "{line}").expect("the line is written");
 }
 
-fn own_program(words: &[&str]) -> Vec<String> {
-    [&[env!("CARGO_BIN_EXE_sheets")], words].concat().iter().map(|word| word.to_string()).collect()
-}
+const OWN_PROGRAM: &str = env!("CARGO_BIN_EXE_sheets");
 
 #[test]
 fn the_sheet_of_document_01() {
@@ -50,11 +48,11 @@ fn the_same_tapes_in_every_run() {
 
 #[test]
 fn the_comparison_with_the_tables_as_a_program() {
-    say(&compare(Way::Stream, &own_program(&["stream", "--tables"])).unwrap());
+    say(&compare(Way::Stream, &[OWN_PROGRAM, "stream", "--tables"]).unwrap());
 }
 
 #[test]
 fn a_program_that_answers_one_tape_only_fails() {
-    let reason = compare(Way::Stream, &own_program(&["sheet"])).unwrap_err();
+    let reason = compare(Way::Stream, &[OWN_PROGRAM, "sheet"]).unwrap_err();
     say(&format!("a program that is no stream fails: {reason}"));
 }

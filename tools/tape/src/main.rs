@@ -1,6 +1,6 @@
 //! Packs stories, shows tapes and explains sheets.
 
-use sheets::compare::run;
+use sheets::run;
 use sheets::tape::Tape;
 use std::io::Write;
 use std::process::ExitCode;
@@ -53,7 +53,6 @@ fn shown(file: &str) -> Result<Vec<u8>, String> {
 
 fn explained(file: &str, command: &[&str]) -> Result<Vec<u8>, String> {
     let tape = read(file)?;
-    let command: Vec<String> = command.iter().map(|word| word.to_string()).collect();
-    let sheet = run(&command, &tape)?;
+    let sheet = run(command, &tape)?;
     explain(&tape, &sheet).map(String::into_bytes).map_err(|reason| format!("{file}: {reason}"))
 }

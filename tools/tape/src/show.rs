@@ -86,8 +86,8 @@ fn component(component: &Component) -> String {
         RECEIVER => "receiver",
         _ => "provider",
     };
-    let exported = if component.exported { " exported" } else { "" };
-    let shares = if component.shares { " shares" } else { "" };
+    let exported = if component.exported == 1 { " exported" } else { "" };
+    let shares = if component.shares == 1 { " shares" } else { "" };
     let permissions = if component.kind == PROVIDER {
         permission("read", component.read) + &permission("write", component.write)
     } else {

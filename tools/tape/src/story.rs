@@ -213,9 +213,9 @@ fn component(words: &[&str]) -> Read<Component> {
     let [_, own, rest @ ..] = words else { return expected_form(words) };
     let mut rest = rest;
     let mut component = Component { number: number(own, 1..=u16::MAX, "a component")?, kind, ..Component::default() };
-    component.exported = flag(&mut rest, "exported");
+    component.exported = flag(&mut rest, "exported").into();
     if kind == PROVIDER {
-        component.shares = flag(&mut rest, "shares");
+        component.shares = flag(&mut rest, "shares").into();
         component.read = needed(&mut rest, "read")?;
         component.write = needed(&mut rest, "write")?;
     } else {

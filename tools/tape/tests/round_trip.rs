@@ -1,6 +1,7 @@
 //! Every good tape has a story that packs to it: those of the vectors, of the plans that compare sheets, the example.
 
 use sheets::answer::sheet_text;
+use sheets::compare::tapes_in;
 use sheets::tape::Tape;
 use sheets::{plans, rules, tally::Tally};
 use std::io::Write;
@@ -32,8 +33,7 @@ fn goes_round(bytes: &[u8]) -> bool {
 
 #[test]
 fn the_vectors_go_round() {
-    let files = std::fs::read_dir(in_the_tree("vectors/base")).unwrap().map(|entry| entry.unwrap().path());
-    let tapes: Vec<PathBuf> = files.filter(|path| path.extension().is_some_and(|end| end == "tape")).collect();
+    let tapes = tapes_in(&in_the_tree("vectors/base")).unwrap();
     let good = tapes.iter().filter(|path| goes_round(&std::fs::read(path).unwrap())).count();
     assert!(good > 0);
     say(&format!("{} vectors, {good} good tapes: each is packed again from its story", tapes.len()));
