@@ -1,6 +1,9 @@
 /* The validity test of the monitor in plain C: document 01, "A valid state". */
 #include "monitor.h"
 
+_Static_assert(sizeof(struct app) == 92 && sizeof(struct definition) == 6 && sizeof(struct component) == 10
+    && sizeof(struct resource) == 8 && sizeof(struct instance) == 4 && sizeof(struct loan) == 8, "padding");
+
 /* How many of an app's entries a table has shown so far, and the last one's key. */
 struct shown {
     unsigned count;
