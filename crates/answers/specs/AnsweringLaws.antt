@@ -5,21 +5,27 @@ use mathlib.Core.Bool.{Bool, true, false, _&&_, _||_, cond}
 use mathlib.Core.List.{List, [], _∷_, map}
 use mathlib.Core.Option.{Option, none, some}
 use lib.Dec.{eqb}
+use lib.ListN.{drop}
 use native.Mathlib.Omega.{arith}
 use Rattle.manifest.specs.declared.Resource.{Resource}
 use Rattle.rules.specs.declared.Part.{Part}
 use Rattle.rules.specs.declared.Instance.{Instance}
+use Rattle.rules.specs.declared.Loan.{Loan}
 use Rattle.rules.specs.declared.Reason.{Reason}
 use Rattle.rules.specs.declared.Answer.{Answer}
-use Rattle.rules.specs.declared.Answer.the-variants.{Refused}
+use Rattle.rules.specs.declared.Answer.the-variants.{Done, Refused}
 use Rattle.rules.specs.Lists.{any, find, isSome, mapOption, upto}
 use Rattle.rules.specs.ListsLaws.{any-append, find-map, map-map}
-use Rattle.rules.specs.Refusals.{Refusal, _when_}
-use Rattle.rules.specs.Answer.{decide}
+use Rattle.rules.specs.Limits.{large}
+use Rattle.rules.specs.Action.{Action}
+use Rattle.rules.specs.Refusals.{Refusal, _when_, refusals}
+use Rattle.rules.specs.Answer.{decide, groundFor, valueFor}
 use Rattle.state.specs.declared.App.{App}
+use Rattle.state.specs.declared.Device.{Device}
 use Rattle.state.specs.Stored.{rowOf}
 use Rattle.state.specs.Tables.{appsOf, appAt, partAt, runIn, isResource, valueIn}
 use Rattle.tables.specs.Finding.{isApp, isPart, isInstance}
+use Rattle.answers.specs.Answering.{viewIn, answerIn}
 
 -- ---- the order of the refusals
 module _ (n : Reason) (rs : List Refusal) (done : Answer) {r b : Bool} (asked : r ≡ b) where
@@ -29,14 +35,20 @@ module _ (n : Reason) (rs : List Refusal) (done : Answer) {r b : Bool} (asked : 
   refuses e = rw (sym asked ∙ e)
 
   -- one that does not apply leaves the answer to the rest
-  pub passes : r ≡ false → {a : Answer} → a ≡ decide rs done → a ≡ decide (n when b ∷ rs) done
+  pub passes : r ≡ false → decide rs done ≡ decide (n when b ∷ rs) done
   unfolding decide
-  passes e h = h ∙ rw (sym asked ∙ e)
+  passes e = rw (sym asked ∙ e)
 
 -- where none applies, the action is done
-pub ends : {a done : Answer} → a ≡ done → a ≡ decide [] done
+pub ends : {done : Answer} → done ≡ decide [] done
 unfolding decide
-ends e = e
+ends = refl
+
+-- the first k refusals are passed: those after them decide the answer
+abbrev pub Passed : ℕ → Device → List Loan → Action → Type 0
+Passed k d lent x =
+    let v = viewIn d lent in
+    decide (drop k (refusals large v x)) (Done (groundFor v x) (valueFor large v x)) ≡ answerIn d lent x
 
 -- ---- searches
 module _ {A : Type 0} where

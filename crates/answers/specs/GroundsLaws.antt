@@ -20,17 +20,21 @@ use Rattle.rules.specs.Grounds.{isGround, rightGround, loanGround, ground, runn
 use Rattle.rules.specs.Refusals.{Refusal, lacking, noReceivingApp, noReceivingInstance}
 use Rattle.rules.specs.Answer.{decide}
 use Rattle.state.specs.declared.App.{App}
+use Rattle.state.specs.declared.Apps.{Apps}
+use Rattle.state.specs.declared.Parts.{Parts}
+use Rattle.state.specs.declared.Instances.{Instances}
 use Rattle.state.specs.Stored.{rowOf}
-use Rattle.state.specs.Tables.{State, appsOf, appAt, partAt, viewOf}
+use Rattle.state.specs.Tables.{State, appsOf, appAt, partAt, runIn, viewOf}
 use Rattle.tables.specs.declared.Place.the-variants.{At, Nothing as Nowhere}
+use Rattle.tables.specs.Held.{appsIn, partsIn, instancesIn}
 use Rattle.tables.specs.Finding.{placeOf, isApp}
 use Rattle.tables.specs.FindingLaws.{found, not-found}
-use Rattle.tables.specs.Looking.{viewBy, ownerPlace}
+use Rattle.tables.specs.Looking.{viewBy, ownerPlace, runningPlace}
 use Rattle.tables.specs.LookingLaws.{blankApp, app-found, app-missing}
 use Rattle.answers.specs.declared.Installed.the-variants.{Found, Missing}
 use Rattle.answers.specs.declared.Stored.the-variants.{Value, Nothing as NoValue}
 use Rattle.answers.specs.declared.Way.the-variants.{NoProvider, NoInstance, By}
-use Rattle.answers.specs.Answering.{installed, storedOf, way, isClosed, lacksOne}
+use Rattle.answers.specs.Answering.{runsView, installed, storedOf, way, isClosed, lacksOne}
 
 -- ---- a component and a value looked for
 pub installed-found : (o : Option Part) (k : Part) → installed o ≡ Found k → o ≡ some k
@@ -176,13 +180,13 @@ revalued (r ∷ rs) g x y = go (r .applies) (revalued rs g x y)
 
 -- ---- the app of a running instance
 module _ (l : List App) where
-  pub owner-none : (o : Option Part) → orElse Nowhere (mapOption (λ k. placeOf (isApp (k .app)) l) o) ≡ Nowhere
+  owner-none : (o : Option Part) → orElse Nowhere (mapOption (λ k. placeOf (isApp (k .app)) l) o) ≡ Nowhere
       → bind o (λ k. appAt (appsOf (map rowOf l)) (k .app)) ≡ none
   unfolding orElse mapOption bind
   owner-none none e = refl
   owner-none (some k) e = app-missing l (k .app) (not-found (isApp (k .app)) l e)
 
-  pub running-none : (ps : List Part) (o : Option ℕ) → orElse Nowhere (mapOption (ownerPlace l ps) o) ≡ Nowhere
+  running-none : (ps : List Part) (o : Option ℕ) → orElse Nowhere (mapOption (ownerPlace l ps) o) ≡ Nowhere
       → bind o (λ c. bind (partAt ps c) (λ k. appAt (appsOf (map rowOf l)) (k .app))) ≡ none
   unfolding orElse mapOption bind ownerPlace
   running-none ps none e = refl
@@ -202,11 +206,22 @@ module _ (e : List App) (n i : ℕ) where
       let f = found (isApp (k .app)) blankApp e n i h in
       record { below = f .below; same = app-found (take n e) (k .app) _ (f .same) }
 
-  pub running-at : (ps : List Part) (o : Option ℕ) → orElse Nowhere (mapOption (ownerPlace (take n e) ps) o) ≡ At i
+  running-at : (ps : List Part) (o : Option ℕ) → orElse Nowhere (mapOption (ownerPlace (take n e) ps) o) ≡ At i
       → AppAt e i (bind o (λ c. bind (partAt ps c) (λ k. appAt (appsOf (map rowOf (take n e))) (k .app))))
   unfolding orElse mapOption bind ownerPlace
   running-at ps none h = absurd (let z : _≡_ {A = ℕ} 0 1 = cc in omega arith)
   running-at ps (some c) h = owner-at (partAt ps c) h
+
+module _ (apps : Apps) (parts : Parts) (instances : Instances) (n : ℕ) where
+  pub runs-nowhere : runningPlace (appsIn apps) (partsIn parts) (instancesIn instances) n ≡ Nowhere
+      → runningApp (runsView apps parts instances) n ≡ none
+  unfolding runningApp viewBy viewOf runningPlace
+  runs-nowhere h = running-none (appsIn apps) (partsIn parts) (runIn (instancesIn instances) n) h
+
+  pub runs-at : (i : ℕ) → runningPlace (appsIn apps) (partsIn parts) (instancesIn instances) n ≡ At i
+      → AppAt (apps .entries) i (runningApp (runsView apps parts instances) n)
+  unfolding runningApp viewBy viewOf runningPlace
+  runs-at i h = running-at (apps .entries) (apps .count) i (partsIn parts) (runIn (instancesIn instances) n) h
 
 -- ---- room for a loan
 pub room-is : {A : Type 0} (l : List A) (k : ℕ) → length l ≡ 128 → leb 128 k ≡ leb 128 (length (take k l))
@@ -216,7 +231,12 @@ room-is l k e = go (leb 128 k) refl
     go true h = h ∙ sym (le-leb 128 (length (take k l)) (omega (arith, leb-true 128 k h, length-take k l)))
     go false h = h ∙ sym (lt-leb 128 (length (take k l)) (omega (arith, leb-false 128 k h, length-take k l)))
 
--- ---- which tables a receiver depends on
+-- ---- which tables an instance and a receiver depend on
+pub not-running-by : (s : State) (n : ℕ)
+    → missing (runningApp (viewBy (s .rows) [] (s .parts) (s .instances)) n) ≡ missing (runningApp (viewOf s) n)
+unfolding runningApp viewBy viewOf
+not-running-by s n = refl
+
 pub receiving-app-by : (s : State) (r : Receiver)
     → noReceivingApp (viewBy (s .rows) [] [] []) r ≡ noReceivingApp (viewOf s) r
 unfolding noReceivingApp viewBy viewOf
@@ -225,6 +245,6 @@ receiving-app-by s (anApp b) = refl
 
 pub receiving-instance-by : (s : State) (r : Receiver)
     → noReceivingInstance (viewBy (s .rows) [] (s .parts) (s .instances)) r ≡ noReceivingInstance (viewOf s) r
-unfolding noReceivingInstance runningApp viewBy viewOf
-receiving-instance-by s (anInstance n) = refl
+unfolding noReceivingInstance
+receiving-instance-by s (anInstance n) = not-running-by s n
 receiving-instance-by s (anApp b) = refl

@@ -1,7 +1,6 @@
 -- `admit` meets its contract: the sections stand where the verdict says.
-use Rattle.answers.proofs.Kit.{[], refl, sym, ap, _∙_, needs, refuses, passes, ends}
-use Rattle.rules.specs.Limits.{large}
-use Rattle.rules.specs.Refusals.{clash, crowded}
+use Rattle.answers.proofs.Kit.{_≡_, [], sym, ap, _∙_, needs, refuses, passes, ends}
+use Rattle.manifest.specs.Layout.{laidOut, manifestOf}
 use Rattle.state.specs.Tables.{viewOf}
 use Rattle.state.specs.Stored.{modelOf}
 use Rattle.answers.specs.Answering.{viewIn}
@@ -14,36 +13,27 @@ use Rattle.answers.proofs.admit.Tie as tie
 sections : (c : tie.Start) → Read (c .args .bytes .now) (c .args .m)
 sections c = read-good _ _ (c .pre)
 
+whole : (c : tie.Start) → admit (viewIn (c .args .d) []) (laidOut (c .args .bytes .now))
+    ≡ admit (viewIn (c .args .d) []) (manifestOf (c .args .bytes .now))
+whole c = ap (admit (viewIn (c .args .d) [])) (sym (sections c .whole))
+
 returns : tie.Need-returns
 unfolding admit
-returns c =
-    refuses _ _ _ (c .before .clashes .ensures ∙ ap (clash (viewIn (c .before .before .before .args .d) []))
-    (sym (sections (c .before .before .before) .whole))) (c .if1 .taken)
+returns c = refuses _ _ _ (c .before .clashes .ensures) (c .if1 .taken) ∙ whole (search)
 
 returns-2 : tie.Need-returns-2
 unfolding admit viewOf modelOf
 returns-2 c =
-    passes _ _ _ (c .before .before .before .clashes .ensures ∙ ap
-    (clash (viewIn (c .before .before .before .before .before .args .d) []))
-    (sym (sections (c .before .before .before .before .before) .whole))) (c .before .before .if1 .left)
-    (refuses _ _ _ (c .before .is-crowded .ensures ∙ sym
-    (crowded-is (sections (c .before .before .before .before .before))
-    (viewIn (c .before .before .before .before .before .args .d) [])) ∙ ap
-    (crowded large (viewIn (c .before .before .before .before .before .args .d) []))
-    (sym (sections (c .before .before .before .before .before) .whole))) (c .if2 .taken))
+    let new : tie.Else1 = search in
+    refuses _ _ _ (c .before .is-crowded .ensures ∙ sym (crowded-is (sections (search)) _)) (c .if2 .taken)
+    ∙ passes _ _ _ (new .before .clashes .ensures) (new .if1 .left) ∙ whole (search)
 
 returns-3 : tie.Need-returns-3
 unfolding admit viewOf modelOf
 returns-3 c =
-    passes _ _ _ (c .before .before .before .clashes .ensures ∙ ap
-    (clash (viewIn (c .before .before .before .before .before .args .d) []))
-    (sym (sections (c .before .before .before .before .before) .whole))) (c .before .before .if1 .left)
-    (passes _ _ _ (c .before .is-crowded .ensures ∙ sym
-    (crowded-is (sections (c .before .before .before .before .before))
-    (viewIn (c .before .before .before .before .before .args .d) [])) ∙ ap
-    (crowded large (viewIn (c .before .before .before .before .before .args .d) []))
-    (sym (sections (c .before .before .before .before .before) .whole))) (c .if2 .left)
-    (ends refl))
+    let new : tie.Else1 = search in
+    ends ∙ passes _ _ _ (c .before .is-crowded .ensures ∙ sym (crowded-is (sections (search)) _)) (c .if2 .left)
+    ∙ passes _ _ _ (new .before .clashes .ensures) (new .if1 .left) ∙ whole (search)
 
 pub admit-spec : {M : Type 1} → statement M
 admit-spec = tie.close (tie.spec (λ c κs. search needs) returns (λ c κs. search needs) returns-2 returns-3)

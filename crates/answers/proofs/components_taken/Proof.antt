@@ -26,52 +26,34 @@ abbrev μ-loop : tie.MeasureT-loop
 loop-holds : tie.Need-loop-holds Inv-loop μ-loop
 loop-holds c = (refl, refl)
 
-entry : (c : tie.After-component-at Inv-loop μ-loop) → c .component-at .result ≡ componentAt
-    (c .before .before .before .before .args .bytes .now) (c .before .before .loop .i)
+-- the entry of a turn is all there
+entry : (c : tie.After-component-at Inv-loop μ-loop) → let args = c .before .before .before .before .args in
+    c .component-at .result ≡ componentAt (args .bytes .now) (c .before .before .loop .i)
 entry c =
-    c .component-at .ensures ∙ entry-there zeroComponent componentAt 8
-    (c .before .before .before .before .args .bytes .now) (c .before .before .loop .i)
-    (omega (
-      arith,
-      c .before .before .loop .inv .0,
-      c .before .before .before .before .pre,
-      c .before .loop-test .taken,
-    ))
+    let start : tie.Start Inv-loop μ-loop = search in
+    c .component-at .ensures
+    ∙ entry-there zeroComponent componentAt 8 (start .args .bytes .now) (c .before .before .loop .i) (omega arith)
 
 returns : tie.Need-returns Inv-loop μ-loop
 returns c =
-    sym (c .before .before .before .before .loop .inv .1 ∙ any-here _ 8
-    (taken (c .before .before .before .before .before .before .args .parts)) _ _
-    (c .before .before .before .loop-test .taken) (entry (c .before .before))
-    (c .before .has-part .ensures ∙ part-here (partsIn (c .before .before .before .before .before .before .args .parts))
-    (c .before .before .component-at .result .number)) (c .if1 .taken))
-
-add-i : tie.Need-add-i Inv-loop μ-loop
-add-i c =
-    omega (
-      arith,
-      c .before .before .before .before .loop .inv .0,
-      c .before .before .before .before .before .before .pre,
-      c .before .before .before .loop-test .taken,
-    )
+    let turn : tie.In-loop Inv-loop μ-loop = search in
+    sym (turn .before .loop .inv .1
+    ∙ any-here _ 8 _ _ _ (turn .loop-test .taken) (entry (search)) (c .before .has-part .ensures ∙ part-here _ _)
+    (c .if1 .taken))
 
 loop-again : tie.Need-loop-again Inv-loop μ-loop
-loop-again c = (
-  omega (arith, c .before .before .before .before .loop .inv .0, c .before .before .before .loop-test .taken),
-  c .before .before .before .before .loop .inv .1 ∙ any-on _ 8
-      (taken (c .before .before .before .before .before .before .args .parts)) _ _
-      (c .before .before .before .loop-test .taken) (entry (c .before .before))
-      (c .before .has-part .ensures ∙ part-here
-      (partsIn (c .before .before .before .before .before .before .args .parts))
-      (c .before .before .component-at .result .number)) (c .if1 .left),
-)
+loop-again c =
+    let turn : tie.In-loop Inv-loop μ-loop = search in (
+      omega arith,
+      turn .before .loop .inv .1
+          ∙ any-on _ 8 _ _ _ (turn .loop-test .taken) (entry (search)) (c .before .has-part .ensures ∙ part-here _ _)
+          (c .if1 .left),
+    )
 
 returns-2 : tie.Need-returns-2 Inv-loop μ-loop
-returns-2 c =
-    sym (c .before .loop .inv .1 ∙ any-none _ 8 (taken (c .before .before .before .args .parts)) _ _
-    (c .loop-test .left))
+returns-2 c = sym (c .before .loop .inv .1 ∙ any-none _ 8 _ _ _ (c .loop-test .left))
 
 pub components-taken-spec : {M : Type 1} → statement M
 components-taken-spec =
-    tie.close (tie.spec Inv-loop μ-loop loop-holds (λ c κs. search needs) (λ c κs. search needs) returns add-i
-    (λ c. omega arith) (λ c. omega arith) loop-again returns-2)
+    tie.close (tie.spec Inv-loop μ-loop loop-holds (λ c κs. search needs) (λ c κs. search needs) returns
+    (λ c. omega arith) (λ c. omega arith) (λ c. omega arith) loop-again returns-2)

@@ -8,13 +8,14 @@ use Rattle.answers.specs.Answering.{installed}
 use Rattle.answers.proofs.find_provider.Statement.{statement}
 use Rattle.answers.proofs.find_provider.Tie as tie
 
-there : (c : tie.After-place) → Found (isPart (c .before .before .before .args .number)) zeroPart
-    (c .before .before .before .args .t1 .entries) (c .before .before .before .args .t1 .count) (c .place .given .0 .0)
+there : (c : tie.After-place) → let args = c .before .before .before .args in
+    Found (isPart (args .number)) zeroPart (args .t1 .entries) (args .t1 .count) (c .place .given .0 .0)
 there c = found _ zeroPart _ _ _ (sym (c .before .before .find-part .ensures) ∙ c .place .given .1)
 
 below : (c : tie.After-place) → c .place .given .0 .0 < 64
 below c =
-    omega (arith, there c .below, parts-long (c .before .before .before .args .t1) (c .before .before .before .good .0))
+    let start : tie.Start = search in
+    omega (arith, there c .below, parts-long (start .args .t1) (start .good .0))
 
 mul-k : tie.Need-mul-k
 mul-k c = omega (arith, below (c .before))
@@ -24,7 +25,7 @@ element-copy-out-k c = below (c .before)
 
 returns : tie.Need-returns
 unfolding installed provider bind viewBy viewOf partAt
-returns c = rw (there (c .before .before .before .before) .same, eq-eqb _ _ (c .if1 .taken))
+returns c = rw (there (search) .same, eq-eqb _ _ (c .if1 .taken))
 
 returns-2 : tie.Need-returns-2
 unfolding installed provider bind viewBy viewOf partAt
@@ -32,7 +33,7 @@ returns-2 c = rw (not-found _ _ (sym (c .before .before .find-part .ensures) ∙
 
 returns-3 : tie.Need-returns-3
 unfolding installed provider bind viewBy viewOf partAt
-returns-3 c = rw (there (c .before .before .before .before) .same, ne-eqb _ _ (c .if1 .left))
+returns-3 c = rw (there (search) .same, ne-eqb _ _ (c .if1 .left))
 
 pub find-provider-spec : {M : Type 1} → statement M
 find-provider-spec =

@@ -16,31 +16,27 @@ returns c =
 returns-2 : tie.Need-returns-2
 unfolding rightGround allows holds hold known viewBy viewOf modelOf
 returns-2 c =
-    ground-instance _ _ _ _ _ _ (c .before .before .before .before .before .before .ground-right .ensures)
-    (c .before .before .before .before .before .is-ground .ensures) (c .before .before .before .before .if1 .left)
-    (c .before .before .wider .ensures) (c .before .is-lent .ensures) (c .if2 .taken)
+    let no-right : tie.Else1 = search in
+    ground-instance _ _ _ _ _ _ (no-right .before .before .ground-right .ensures) (no-right .before .is-ground .ensures)
+    (no-right .if1 .left) (c .before .before .wider .ensures) (c .before .is-lent .ensures) (c .if2 .taken)
 
 returns-3 : tie.Need-returns-3
 unfolding rightGround allows holds hold known viewBy viewOf modelOf
 returns-3 c =
-    ground-app _ _ _ _ _ _
-    (c .before .before .before .before .before .before .before .before .before .ground-right .ensures)
-    (c .before .before .before .before .before .before .before .before .is-ground .ensures)
-    (c .before .before .before .before .before .before .before .if1 .left)
-    (c .before .before .before .before .before .wider .ensures) (c .before .before .before .before .is-lent .ensures)
-    (c .before .before .before .if2 .left) (c .before .before .wider2 .ensures) (c .before .is-lent2 .ensures)
-    (c .if3 .taken)
+    let no-right : tie.Else1 = search in
+    let no-loan : tie.Else2 = search in
+    ground-app _ _ _ _ _ _ (no-right .before .before .ground-right .ensures) (no-right .before .is-ground .ensures)
+    (no-right .if1 .left) (no-loan .before .before .wider .ensures) (no-loan .before .is-lent .ensures)
+    (no-loan .if2 .left) (c .before .before .wider2 .ensures) (c .before .is-lent2 .ensures) (c .if3 .taken)
 
 returns-4 : tie.Need-returns-4
 unfolding rightGround allows holds hold known viewBy viewOf modelOf
 returns-4 c =
-    ground-none _ _ _ _ _ _
-    (c .before .before .before .before .before .before .before .before .before .ground-right .ensures)
-    (c .before .before .before .before .before .before .before .before .is-ground .ensures)
-    (c .before .before .before .before .before .before .before .if1 .left)
-    (c .before .before .before .before .before .wider .ensures) (c .before .before .before .before .is-lent .ensures)
-    (c .before .before .before .if2 .left) (c .before .before .wider2 .ensures) (c .before .is-lent2 .ensures)
-    (c .if3 .left)
+    let no-right : tie.Else1 = search in
+    let no-loan : tie.Else2 = search in
+    ground-none _ _ _ _ _ _ (no-right .before .before .ground-right .ensures) (no-right .before .is-ground .ensures)
+    (no-right .if1 .left) (no-loan .before .before .wider .ensures) (no-loan .before .is-lent .ensures)
+    (no-loan .if2 .left) (c .before .before .wider2 .ensures) (c .before .is-lent2 .ensures) (c .if3 .left)
 
 pub ground-of-spec : {M : Type 1} → statement M
 ground-of-spec =

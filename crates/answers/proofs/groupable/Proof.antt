@@ -28,12 +28,14 @@ loop-holds c =
 returns : tie.Need-returns Inv-loop μ-loop
 unfolding groupable
 returns c =
-    some-hits (c .before .before .before .loop .inv) (c .before .before .loop-test .taken) _
+    let turn : tie.In-loop Inv-loop μ-loop = search in
+    some-hits (turn .before .loop .inv) (turn .loop-test .taken) _
     (sym (c .before .in-group .ensures) ∙ c .if1 .taken)
 
 loop-again : tie.Need-loop-again Inv-loop μ-loop
 loop-again c =
-    some-next (c .before .before .before .loop .inv) (c .before .before .loop-test .taken) _
+    let turn : tie.In-loop Inv-loop μ-loop = search in
+    some-next (turn .before .loop .inv) (turn .loop-test .taken) _
     (sym (c .before .in-group .ensures) ∙ c .if1 .left)
 
 returns-2 : tie.Need-returns-2 Inv-loop μ-loop

@@ -4,13 +4,14 @@ use Rattle.answers.proofs.Kit.{app-found, app-missing, apps-long}
 use Rattle.answers.proofs.held_by.Statement.{statement}
 use Rattle.answers.proofs.held_by.Tie as tie
 
-there : (c : tie.After-place) → Found (isApp (c .before .before .before .args .app)) blankApp
-    (c .before .before .before .args .t1 .entries) (c .before .before .before .args .t1 .count) (c .place .given .0 .0)
+there : (c : tie.After-place) → let args = c .before .before .before .args in
+    Found (isApp (args .app)) blankApp (args .t1 .entries) (args .t1 .count) (c .place .given .0 .0)
 there c = found _ blankApp _ _ _ (sym (c .before .before .find-app .ensures) ∙ c .place .given .1)
 
 below : (c : tie.After-place) → c .place .given .0 .0 < 16
 below c =
-    omega (arith, there c .below, apps-long (c .before .before .before .args .t1) (c .before .before .before .good .0))
+    let start : tie.Start = search in
+    omega (arith, there c .below, apps-long (start .args .t1) (start .good .0))
 
 mul-a : tie.Need-mul-a
 mul-a c = omega (arith, below (c .before))
@@ -24,7 +25,7 @@ returns c = rw (app-missing _ _ (not-found _ _ (sym (c .before .before .find-app
 
 returns-2 : tie.Need-returns-2
 unfolding test
-returns-2 c = c .holds .ensures ∙ rw (app-found _ _ _ (there (c .before .before .before) .same))
+returns-2 c = c .holds .ensures ∙ rw (app-found _ _ _ (there (search) .same))
 
 pub held-by-spec : {M : Type 1} → statement M
 held-by-spec =

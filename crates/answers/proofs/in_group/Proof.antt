@@ -17,19 +17,16 @@ unfolding test
 returns c =
     rw (
       ← c .before .before .before .wide .ensures,
-      look-none (asked (c .before .before .before))
-          (sym (c .before .before .known-of .ensures) ∙ c .enum-told .given .1),
+      look-none (asked (search)) (sym (c .before .before .known-of .ensures) ∙ c .enum-told .given .1),
     )
 
 returns-2 : tie.Need-returns-2
 unfolding test
 returns-2 c =
+    let told : tie.After-look = search in
     rw (
-      ← c .before .before .before .before .before .before .wide .ensures,
-      look-found
-          (asked (c .before .before .before .before .before .before)) _
-          (sym (c .before .before .before .before .before .known-of .ensures)
-          ∙ c .before .before .before .look .given .1),
+      ← told .before .before .before .wide .ensures,
+      look-found (asked (search)) _ (sym (told .before .before .known-of .ensures) ∙ told .look .given .1),
       c .wide2 .ensures,
     )
 

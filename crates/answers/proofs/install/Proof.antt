@@ -17,9 +17,9 @@ returns c = refuses _ _ _ refl (malformed _ (sym (c .before .before .check .ensu
 returns-2 : tie.Need-returns-2
 unfolding answer refusals groundFor valueFor admit
 returns-2 c =
-    passes _ _ _ refl (read-good _ _
-    (sym (c .before .before .before .before .check .ensures) ∙ c .before .before .verdict .given .1) .fine)
-    (c .admit .ensures)
+    let good : tie.After-verdict = search in
+    c .admit .ensures
+    ∙ passes _ _ _ refl (read-good _ _ (sym (good .before .before .check .ensures) ∙ good .verdict .given .1) .fine)
 
 pub install-spec : {M : Type 1} → statement M
 install-spec =

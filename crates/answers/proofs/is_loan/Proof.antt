@@ -7,11 +7,15 @@ use Rattle.answers.proofs.is_loan.Tie as tie
 
 returns : tie.Need-returns
 unfolding isLoan isTo isOn receiverKind receiverNumber
-returns c = rw (c .before .before .before .before .before .receiver .given .1, c .before .before .wider .ensures)
+returns c =
+    let told : tie.After-receiver = search in
+    rw (told .receiver .given .1, c .before .before .wider .ensures)
 
 returns-2 : tie.Need-returns-2
 unfolding isLoan isTo isOn receiverKind receiverNumber
-returns-2 c = rw (c .before .before .before .before .before .receiver2 .given .1, c .before .before .wider2 .ensures)
+returns-2 c =
+    let told : tie.After-receiver2 = search in
+    rw (told .receiver2 .given .1, c .before .before .wider2 .ensures)
 
 pub is-loan-spec : {M : Type 1} → statement M
 is-loan-spec =

@@ -22,12 +22,14 @@ loop-holds c = refl
 
 returns : tie.Need-returns Inv-loop μ-loop
 returns c =
-    sym (c .before .before .before .loop .inv ∙ any-upto _ _ (c .before .before .loop-test .taken) ∙ rw
+    let turn : tie.In-loop Inv-loop μ-loop = search in
+    sym (turn .before .loop .inv ∙ any-upto _ _ (turn .loop-test .taken) ∙ rw
     (sym (c .before .runs-for .ensures) ∙ c .if1 .taken))
 
 loop-again : tie.Need-loop-again Inv-loop μ-loop
 loop-again c =
-    c .before .before .before .loop .inv ∙ any-upto _ _ (c .before .before .loop-test .taken) ∙ rw
+    let turn : tie.In-loop Inv-loop μ-loop = search in
+    turn .before .loop .inv ∙ any-upto _ _ (turn .loop-test .taken) ∙ rw
     (sym (c .before .runs-for .ensures) ∙ c .if1 .left)
 
 returns-2 : tie.Need-returns-2 Inv-loop μ-loop

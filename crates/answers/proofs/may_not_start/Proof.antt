@@ -10,9 +10,9 @@ use Rattle.answers.proofs.may_not_start.Tie as tie
 returns : tie.Need-returns
 unfolding startable viewBy viewOf modelOf
 returns c =
+    let found : tie.After-part = search in
     c .barred .ensures ∙ test-some _ _
-    (installed-found _ _
-    (sym (c .before .before .before .before .find-startable .ensures) ∙ c .before .before .part .given .1))
+    (installed-found _ _ (sym (found .before .before .find-startable .ensures) ∙ found .part .given .1))
 
 returns-2 : tie.Need-returns-2
 unfolding startable viewBy viewOf modelOf

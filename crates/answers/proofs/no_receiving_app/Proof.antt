@@ -12,9 +12,10 @@ returns c = rw (c .enum-told .given .1)
 returns-2 : tie.Need-returns-2
 unfolding noReceivingApp missing viewBy viewOf
 returns-2 c =
-    rw (c .before .before .receiver .given .1)
-    (ap not (c .has-wide-app .ensures ∙ app-here (appsIn (c .before .before .before .before .args .apps))
-    (c .before .before .receiver .given .0 .0)))
+    let start : tie.Start = search in
+    let told : tie.After-receiver = search in
+    rw (told .receiver .given .1)
+    (ap not (c .has-wide-app .ensures ∙ app-here (appsIn (start .args .apps)) (told .receiver .given .0 .0)))
 
 pub no-receiving-app-spec : {M : Type 1} → statement M
 no-receiving-app-spec =

@@ -12,13 +12,14 @@ use Rattle.answers.proofs.not_grantable.Tie as tie
 abbrev asked : tie.Start → Option Known
 asked c = known (viewBy (rowsIn (c .args .t1)) (definitionsIn (c .args .definitions)) [] []) (c .args .permission)
 
-there : (c : tie.After-place) → Found (isApp (c .before .before .before .args .app)) blankApp
-    (c .before .before .before .args .t1 .entries) (c .before .before .before .args .t1 .count) (c .place .given .0 .0)
+there : (c : tie.After-place) → let args = c .before .before .before .args in
+    Found (isApp (args .app)) blankApp (args .t1 .entries) (args .t1 .count) (c .place .given .0 .0)
 there c = found _ blankApp _ _ _ (sym (c .before .before .find-app .ensures) ∙ c .place .given .1)
 
 below : (c : tie.After-place) → c .place .given .0 .0 < 16
 below c =
-    omega (arith, there c .below, apps-long (c .before .before .before .args .t1) (c .before .before .before .good .0))
+    let start : tie.Start = search in
+    omega (arith, there c .below, apps-long (start .args .t1) (start .good .0))
 
 mul-a : tie.Need-mul-a
 mul-a c = omega (arith, below (c .before))
@@ -34,20 +35,17 @@ returns-2 : tie.Need-returns-2
 unfolding test
 returns-2 c =
     rw (
-      app-found _ _ _ (there (c .before .before .before .before .before) .same),
-      look-none
-          (asked (c .before .before .before .before .before .before .before .before))
-          (sym (c .before .before .known-of .ensures) ∙ c .enum-told2 .given .1),
+      app-found _ _ _ (there (search) .same),
+      look-none (asked (search)) (sym (c .before .before .known-of .ensures) ∙ c .enum-told2 .given .1),
     )
 
 returns-3 : tie.Need-returns-3
 unfolding test
 returns-3 c =
+    let told : tie.After-look = search in
     rw (
-      app-found _ _ _ (there (c .before .before .before .before .before .before .before) .same),
-      look-found
-          (asked (c .before .before .before .before .before .before .before .before .before .before)) _
-          (sym (c .before .before .before .before .known-of .ensures) ∙ c .before .before .look .given .1),
+      app-found _ _ _ (there (search) .same),
+      look-found (asked (search)) _ (sym (told .before .before .known-of .ensures) ∙ told .look .given .1),
       c .grantable .ensures,
     )
 

@@ -7,8 +7,8 @@ use Rattle.answers.proofs.not_sharing.Tie as tie
 returns : tie.Need-returns
 unfolding test
 returns c =
-    rw (installed-found _ _
-    (sym (c .before .before .before .before .find-provider .ensures) ∙ c .before .before .part .given .1))
+    let found : tie.After-part = search in
+    rw (installed-found _ _ (sym (found .before .before .find-provider .ensures) ∙ found .part .given .1))
 
 returns-2 : tie.Need-returns-2
 unfolding test

@@ -6,13 +6,14 @@ use Rattle.state.specs.Tables.{partAt, viewOf}
 use Rattle.answers.proofs.owned_by.Statement.{statement}
 use Rattle.answers.proofs.owned_by.Tie as tie
 
-there : (c : tie.After-place) → Found (isPart (c .before .before .before .args .component)) zeroPart
-    (c .before .before .before .args .t1 .entries) (c .before .before .before .args .t1 .count) (c .place .given .0 .0)
+there : (c : tie.After-place) → let args = c .before .before .before .args in
+    Found (isPart (args .component)) zeroPart (args .t1 .entries) (args .t1 .count) (c .place .given .0 .0)
 there c = found _ zeroPart _ _ _ (sym (c .before .before .find-part .ensures) ∙ c .place .given .1)
 
 below : (c : tie.After-place) → c .place .given .0 .0 < 64
 below c =
-    omega (arith, there c .below, parts-long (c .before .before .before .args .t1) (c .before .before .before .good .0))
+    let start : tie.Start = search in
+    omega (arith, there c .below, parts-long (start .args .t1) (start .good .0))
 
 mul-k : tie.Need-mul-k
 mul-k c = omega (arith, below (c .before))
@@ -26,7 +27,7 @@ returns c = rw (not-found _ _ (sym (c .before .before .find-part .ensures) ∙ c
 
 returns-2 : tie.Need-returns-2
 unfolding test viewBy viewOf partAt
-returns-2 c = rw (there (c .before .before .before) .same)
+returns-2 c = rw (there (search) .same)
 
 pub owned-by-spec : {M : Type 1} → statement M
 owned-by-spec =

@@ -7,18 +7,14 @@ use Rattle.answers.specs.Answering.{ownerIn}
 use Rattle.answers.proofs.owner_installed.Statement.{statement}
 use Rattle.answers.proofs.owner_installed.Tie as tie
 
-there : (c : tie.After-place) → Found (isPart (c .before .before .before .args .component)) zeroPart
-    (c .before .before .before .args .t2 .entries) (c .before .before .before .args .t2 .count) (c .place .given .0 .0)
+there : (c : tie.After-place) → let args = c .before .before .before .args in
+    Found (isPart (args .component)) zeroPart (args .t2 .entries) (args .t2 .count) (c .place .given .0 .0)
 there c = found _ zeroPart _ _ _ (sym (c .before .before .find-part .ensures) ∙ c .place .given .1)
 
 below : (c : tie.After-place) → c .place .given .0 .0 < 64
 below c =
-    omega (
-      arith,
-      there c .below,
-      parts-long (c .before .before .before .args .t2)
-          (c .before .before .before .good .1 .0),
-    )
+    let start : tie.Start = search in
+    omega (arith, there c .below, parts-long (start .args .t2) (start .good .1 .0))
 
 mul-k : tie.Need-mul-k
 mul-k c = omega (arith, below (c .before))
@@ -33,10 +29,10 @@ returns c = rw (not-found _ _ (sym (c .before .before .find-part .ensures) ∙ c
 returns-2 : tie.Need-returns-2
 unfolding ownerIn bind viewBy viewOf partAt
 returns-2 c =
-    rw (there (c .before .before .before) .same)
-    (c .has-app .ensures ∙ app-here (appsIn (c .before .before .before .before .before .before .args .apps))
-    (getD (c .before .before .before .before .before .before .args .t2 .entries)
-    (c .before .before .before .place .given .0 .0) zeroPart .app))
+    let start : tie.Start = search in
+    let at : tie.After-place = search in
+    rw (there at .same) (c .has-app .ensures ∙ app-here (appsIn (start .args .apps))
+    (getD (start .args .t2 .entries) (at .place .given .0 .0) zeroPart .app))
 
 pub owner-installed-spec : {M : Type 1} → statement M
 owner-installed-spec =

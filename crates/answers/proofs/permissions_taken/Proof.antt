@@ -28,52 +28,32 @@ abbrev μ-loop : tie.MeasureT-loop
 loop-holds : tie.Need-loop-holds Inv-loop μ-loop
 loop-holds c = (refl, refl)
 
-entry : (c : tie.After-define-at Inv-loop μ-loop) → c .define-at .result ≡ defineAt
-    (c .before .before .before .before .args .bytes .now) (c .before .before .loop .i)
+-- the entry of a turn is all there
+entry : (c : tie.After-define-at Inv-loop μ-loop) → let args = c .before .before .before .before .args in
+    c .define-at .result ≡ defineAt (args .bytes .now) (c .before .before .loop .i)
 entry c =
-    c .define-at .ensures ∙ entry-there zeroDefine defineAt 3 (c .before .before .before .before .args .bytes .now)
-    (c .before .before .loop .i)
-    (omega (
-      arith,
-      c .before .before .loop .inv .0,
-      c .before .before .before .before .pre,
-      c .before .loop-test .taken,
-    ))
+    let start : tie.Start Inv-loop μ-loop = search in
+    c .define-at .ensures
+    ∙ entry-there zeroDefine defineAt 3 (start .args .bytes .now) (c .before .before .loop .i) (omega arith)
 
 returns : tie.Need-returns Inv-loop μ-loop
 returns c =
-    sym (c .before .before .before .before .loop .inv .1 ∙ any-here _ 3
-    (taken (c .before .before .before .before .before .before .args .apps)
-    (c .before .before .before .before .before .before .args .definitions)) _ _
-    (c .before .before .before .loop-test .taken) (entry (c .before .before)) (c .before .defined .ensures)
-    (c .if1 .taken))
-
-add-i : tie.Need-add-i Inv-loop μ-loop
-add-i c =
-    omega (
-      arith,
-      c .before .before .before .before .loop .inv .0,
-      c .before .before .before .before .before .before .pre,
-      c .before .before .before .loop-test .taken,
-    )
+    let turn : tie.In-loop Inv-loop μ-loop = search in
+    sym (turn .before .loop .inv .1
+    ∙ any-here _ 3 _ _ _ (turn .loop-test .taken) (entry (search)) (c .before .defined .ensures) (c .if1 .taken))
 
 loop-again : tie.Need-loop-again Inv-loop μ-loop
-loop-again c = (
-  omega (arith, c .before .before .before .before .loop .inv .0, c .before .before .before .loop-test .taken),
-  c .before .before .before .before .loop .inv .1 ∙ any-on _ 3
-      (taken (c .before .before .before .before .before .before .args .apps)
-      (c .before .before .before .before .before .before .args .definitions)) _ _
-      (c .before .before .before .loop-test .taken) (entry (c .before .before)) (c .before .defined .ensures)
-      (c .if1 .left),
-)
+loop-again c =
+    let turn : tie.In-loop Inv-loop μ-loop = search in (
+      omega arith,
+      turn .before .loop .inv .1
+          ∙ any-on _ 3 _ _ _ (turn .loop-test .taken) (entry (search)) (c .before .defined .ensures) (c .if1 .left),
+    )
 
 returns-2 : tie.Need-returns-2 Inv-loop μ-loop
-returns-2 c =
-    sym (c .before .loop .inv .1 ∙ any-none _ 3
-    (taken (c .before .before .before .args .apps) (c .before .before .before .args .definitions)) _ _
-    (c .loop-test .left))
+returns-2 c = sym (c .before .loop .inv .1 ∙ any-none _ 3 _ _ _ (c .loop-test .left))
 
 pub permissions-taken-spec : {M : Type 1} → statement M
 permissions-taken-spec =
-    tie.close (tie.spec Inv-loop μ-loop loop-holds (λ c κs. search needs) (λ c κs. search needs) returns add-i
-    (λ c. omega arith) (λ c. omega arith) loop-again returns-2)
+    tie.close (tie.spec Inv-loop μ-loop loop-holds (λ c κs. search needs) (λ c κs. search needs) returns
+    (λ c. omega arith) (λ c. omega arith) (λ c. omega arith) loop-again returns-2)

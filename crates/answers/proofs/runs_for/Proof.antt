@@ -6,18 +6,14 @@ use Rattle.state.specs.Tables.{runIn, viewOf}
 use Rattle.answers.proofs.runs_for.Statement.{statement}
 use Rattle.answers.proofs.runs_for.Tie as tie
 
-there : (c : tie.After-run) → Found (isInstance (c .before .before .before .args .number)) zeroInstance
-    (c .before .before .before .args .t2 .entries) (c .before .before .before .args .t2 .count) (c .run .given .0 .0)
+there : (c : tie.After-run) → let args = c .before .before .before .args in
+    Found (isInstance (args .number)) zeroInstance (args .t2 .entries) (args .t2 .count) (c .run .given .0 .0)
 there c = found _ zeroInstance _ _ _ (sym (c .before .before .find-instance .ensures) ∙ c .run .given .1)
 
 below : (c : tie.After-run) → c .run .given .0 .0 < 64
 below c =
-    omega (
-      arith,
-      there c .below,
-      instances-long (c .before .before .before .args .t2)
-          (c .before .before .before .good .1 .0),
-    )
+    let start : tie.Start = search in
+    omega (arith, there c .below, instances-long (start .args .t2) (start .good .1 .0))
 
 mul-e : tie.Need-mul-e
 mul-e c = omega (arith, below (c .before))
@@ -31,7 +27,7 @@ returns c = rw (not-found _ _ (sym (c .before .before .find-instance .ensures) �
 
 returns-2 : tie.Need-returns-2
 unfolding test mapOption runIn viewBy viewOf
-returns-2 c = c .owned-by .ensures ∙ rw (there (c .before .before .before) .same)
+returns-2 c = c .owned-by .ensures ∙ rw (there (search) .same)
 
 pub runs-for-spec : {M : Type 1} → statement M
 runs-for-spec =

@@ -1,5 +1,5 @@
 -- `stop` meets its contract: an instance is found in the table exactly if it runs.
-use Rattle.answers.proofs.Kit.{refl, ap, _∙_, not, missing, needs, refuses, passes, ends, run-here}
+use Rattle.answers.proofs.Kit.{ap, _∙_, not, missing, needs, refuses, passes, ends, run-here}
 use Rattle.rules.specs.Refusals.{refusals}
 use Rattle.rules.specs.Answer.{answer, groundFor, valueFor}
 use Rattle.state.specs.Tables.{viewOf}
@@ -9,7 +9,7 @@ use Rattle.answers.proofs.stop.Tie as tie
 
 returns : tie.Need-returns
 unfolding answer refusals groundFor valueFor missing viewOf modelOf
-returns c = passes _ _ _ (ap not (c .before .has-instance .ensures ∙ run-here _ _)) (ap not (c .if1 .taken)) (ends refl)
+returns c = ends ∙ passes _ _ _ (ap not (c .before .has-instance .ensures ∙ run-here _ _)) (ap not (c .if1 .taken))
 
 returns-2 : tie.Need-returns-2
 unfolding answer refusals missing viewOf modelOf

@@ -13,13 +13,13 @@ asked c = known (viewBy (rowsIn (c .args .apps)) (definitionsIn (c .args .defini
 returns : tie.Need-returns
 unfolding missing isSome
 returns c =
-    rw (look-found (asked (c .before .before .before)) _
+    rw (look-found (asked (search)) _
     (sym (c .before .before .known-of .ensures) ∙ c .enum-told .given .1))
 
 returns-2 : tie.Need-returns-2
 unfolding missing isSome
 returns-2 c =
-    rw (look-none (asked (c .before .before .before))
+    rw (look-none (asked (search))
     (sym (c .before .before .known-of .ensures) ∙ c .enum-told2 .given .1))
 
 pub undefined-spec : {M : Type 1} → statement M

@@ -6,19 +6,15 @@ use Rattle.answers.specs.Answering.{storedOf}
 use Rattle.answers.proofs.value_of.Statement.{statement}
 use Rattle.answers.proofs.value_of.Tie as tie
 
-there : (c : tie.After-place) → Found
-    (isResource (c .before .before .before .args .provider) (c .before .before .before .args .uri)) zeroResource
-    (c .before .before .before .args .t1 .entries) (c .before .before .before .args .t1 .count) (c .place .given .0 .0)
+there : (c : tie.After-place) → let args = c .before .before .before .args in
+    Found (isResource (args .provider) (args .uri)) zeroResource
+    (args .t1 .entries) (args .t1 .count) (c .place .given .0 .0)
 there c = found _ zeroResource _ _ _ (sym (c .before .before .find-resource .ensures) ∙ c .place .given .1)
 
 below : (c : tie.After-place) → c .place .given .0 .0 < 128
 below c =
-    omega (
-      arith,
-      there c .below,
-      resources-long (c .before .before .before .args .t1)
-          (c .before .before .before .good .0),
-    )
+    let start : tie.Start = search in
+    omega (arith, there c .below, resources-long (start .args .t1) (start .good .0))
 
 mul-e : tie.Need-mul-e
 mul-e c = omega (arith, below (c .before))
@@ -32,7 +28,7 @@ returns c = rw (not-found _ _ (sym (c .before .before .find-resource .ensures) �
 
 returns-2 : tie.Need-returns-2
 unfolding storedOf valueIn mapOption
-returns-2 c = rw (there (c .before .before) .same)
+returns-2 c = rw (there (search) .same)
 
 pub value-of-spec : {M : Type 1} → statement M
 value-of-spec =

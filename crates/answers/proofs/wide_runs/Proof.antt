@@ -8,18 +8,14 @@ use Rattle.answers.specs.Answering.{ownerIn}
 use Rattle.answers.proofs.wide_runs.Statement.{statement}
 use Rattle.answers.proofs.wide_runs.Tie as tie
 
-there : (c : tie.After-run) → Found (isInstance (c .before .before .before .args .number)) zeroInstance
-    (c .before .before .before .args .t3 .entries) (c .before .before .before .args .t3 .count) (c .run .given .0 .0)
+there : (c : tie.After-run) → let args = c .before .before .before .args in
+    Found (isInstance (args .number)) zeroInstance (args .t3 .entries) (args .t3 .count) (c .run .given .0 .0)
 there c = found _ zeroInstance _ _ _ (sym (c .before .before .find-wide-instance .ensures) ∙ c .run .given .1)
 
 below : (c : tie.After-run) → c .run .given .0 .0 < 64
 below c =
-    omega (
-      arith,
-      there c .below,
-      instances-long (c .before .before .before .args .t3)
-          (c .before .before .before .good .1 .1 .0),
-    )
+    let start : tie.Start = search in
+    omega (arith, there c .below, instances-long (start .args .t3) (start .good .1 .1 .0))
 
 mul-e : tie.Need-mul-e
 mul-e c = omega (arith, below (c .before))
@@ -33,7 +29,7 @@ returns c = rw (not-found _ _ (sym (c .before .before .find-wide-instance .ensur
 
 returns-2 : tie.Need-returns-2
 unfolding runningApp ownerIn runIn mapOption bind viewBy viewOf
-returns-2 c = c .owner-installed .ensures ∙ rw (there (c .before .before .before) .same)
+returns-2 c = c .owner-installed .ensures ∙ rw (there (search) .same)
 
 pub wide-runs-spec : {M : Type 1} → statement M
 wide-runs-spec =
