@@ -18,12 +18,12 @@ at l k n b e h = e ∙ ap (λ (m : ℕ). pads isZero m l k) h
 
 returns : tie.Need-returns
 returns c =
-    let s = c .before .before .before .before .before .before .before .before .before .before .before .before in
+    let s : tie.Start = search in
+    let first : tie.After-bytes-padded = search in
+    let second : tie.After-bytes-padded2 = search in
     cc (
-      at (s .args .t1 .uses) (s .args .t1 .used) 32 _
-          (c .before .before .before .before .before .before .before .before .bytes-padded .ensures) (uses s),
-      at (s .args .t1 .grants) (s .args .t1 .granted) 32 _ (c .before .before .before .before .bytes-padded2 .ensures)
-          (grants s),
+      at (s .args .t1 .uses) (s .args .t1 .used) 32 _ (first .bytes-padded .ensures) (uses s),
+      at (s .args .t1 .grants) (s .args .t1 .granted) 32 _ (second .bytes-padded2 .ensures) (grants s),
       at (s .args .t1 .groups) (s .args .t1 .grouped) 15 _ (c .bytes-padded3 .ensures) (groups s),
     )
 

@@ -39,11 +39,15 @@ app-good-requires c κs =
     )
 
 loop-again : tie.Need-loop-again Inv-loop μ-loop
-loop-again c = each-next (c .before .before .before .before .loop .inv) (c .before .before .before .loop-test .taken) _
+loop-again c =
+    let turn : tie.In-loop Inv-loop μ-loop = search in
+    each-next (turn .before .loop .inv) (turn .loop-test .taken) _
     (sym (c .before .app-good .ensures) ∙ c .if1 .taken)
 
 returns : tie.Need-returns Inv-loop μ-loop
-returns c = each-fails (c .before .before .before .before .loop .inv) (c .before .before .before .loop-test .taken) _
+returns c =
+    let turn : tie.In-loop Inv-loop μ-loop = search in
+    each-fails (turn .before .loop .inv) (turn .loop-test .taken) _
     (sym (c .before .app-good .ensures) ∙ c .if1 .left) ∙ sym (all-map _ rowOf _)
 
 returns-2 : tie.Need-returns-2 Inv-loop μ-loop
@@ -60,7 +64,7 @@ apps-good-spec =
     (λ c. omega (arith, c .before .before .before .pre .appsCount))
     (λ c. omega (arith, c .before .before .before .pre .appsCount))
     app-good-requires
-    (λ c. omega (arith, c .before .before .before .before .before .before .pre .appsCount))
+    (λ c. omega arith)
     (λ c. omega arith)
     loop-again
     returns

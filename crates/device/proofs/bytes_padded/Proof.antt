@@ -18,14 +18,16 @@ loop-holds : tie.Need-loop-holds Inv-loop μ-loop
 loop-holds c = each-from _ (omega arith) (omega arith)
 
 loop-again : tie.Need-loop-again Inv-loop μ-loop
-loop-again c = each-next (c .before .before .before .loop .inv) (c .before .before .loop-test .taken) _
-    (eq-eqb _ _ (c .if2 .taken))
+loop-again c =
+    let turn : tie.In-loop Inv-loop μ-loop = search in
+    each-next (turn .before .loop .inv) (turn .loop-test .taken) _ (eq-eqb _ _ (c .if2 .taken))
 
 returns-2 : tie.Need-returns-2 Inv-loop μ-loop
-returns-2 c = pads-within isZero _ (c .before .before .before .before .before .args .s .now) refl _
-    (c .before .before .before .before .if1 .left)
-    (each-fails (c .before .before .before .loop .inv) (c .before .before .loop-test .taken) _
-    (ne-eqb _ _ (c .if2 .left)))
+returns-2 c =
+    let within : tie.Else1 Inv-loop μ-loop = search in
+    let turn : tie.In-loop Inv-loop μ-loop = search in
+    pads-within isZero _ (within .before .args .s .now) refl _ (within .if1 .left)
+    (each-fails (turn .before .loop .inv) (turn .loop-test .taken) _ (ne-eqb _ _ (c .if2 .left)))
 
 returns-3 : tie.Need-returns-3 Inv-loop μ-loop
 returns-3 c = pads-within isZero _ (c .before .before .before .args .s .now) refl _ (c .before .before .if1 .left)

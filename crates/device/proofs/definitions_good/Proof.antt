@@ -25,28 +25,27 @@ loop-holds c = rise-of-begin 16 (omega (arith, long c))
 
 returns : tie.Need-returns Inv-loop μ-loop
 returns c =
-    rise-of-fails (c .before .before .before .before .before .before .before .before .loop .inv)
-    (c .before .before .before .before .before .before .before .loop-test .taken) _
-    (eq-eqb _ _ (c .before .before .before .before .if1 .taken))
+    let turn : tie.In-loop Inv-loop μ-loop = search in
+    let own : tie.Then1 Inv-loop μ-loop = search in
+    rise-of-fails (turn .before .loop .inv) (turn .loop-test .taken) _ (eq-eqb _ _ (own .if1 .taken))
     (rw (← c .before .good-define .ensures) (not-true _ (c .if2 .taken)))
 
 sub-room : tie.Need-sub-room Inv-loop μ-loop
 sub-room c =
-    ltb-true 0 (c .before .before .before .before .before .before .before .before .loop .room)
-    (and-left (ltb 0 (c .before .before .before .before .before .before .before .before .loop .room)) _
-    (not-false _ (c .if2 .left)))
+    let turn : tie.At-loop Inv-loop μ-loop = search in
+    ltb-true 0 (turn .loop .room) (and-left (ltb 0 (turn .loop .room)) _ (not-false _ (c .if2 .left)))
 
 loop-again : tie.Need-loop-again Inv-loop μ-loop
 loop-again c =
-    rise-of-takes (c .before .before .before .before .before .before .before .before .loop .inv)
-    (c .before .before .before .before .before .before .before .loop-test .taken) _
-    (eq-eqb _ _ (c .before .before .before .before .if1 .taken))
+    let turn : tie.In-loop Inv-loop μ-loop = search in
+    let own : tie.Then1 Inv-loop μ-loop = search in
+    rise-of-takes (turn .before .loop .inv) (turn .loop-test .taken) _ (eq-eqb _ _ (own .if1 .taken))
     (rw (← c .before .good-define .ensures) (not-false _ (c .if2 .left)))
 
 loop-again-2 : tie.Need-loop-again-2 Inv-loop μ-loop
 loop-again-2 c =
-    rise-of-skips (c .before .before .before .before .loop .inv) (c .before .before .before .loop-test .taken) _
-    (ne-eqb _ _ (c .if1 .left))
+    let turn : tie.In-loop Inv-loop μ-loop = search in
+    rise-of-skips (turn .before .loop .inv) (turn .loop-test .taken) _ (ne-eqb _ _ (c .if1 .left))
 
 returns-2 : tie.Need-returns-2 Inv-loop μ-loop
 returns-2 c = rise-of-ends (c .before .loop .inv) (c .loop-test .left)

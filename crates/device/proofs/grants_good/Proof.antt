@@ -29,11 +29,15 @@ element-copy-out-p : tie.Need-element-copy-out-p Inv-loop μ-loop
 element-copy-out-p c = omega (arith, few (c .before .before))
 
 loop-again : tie.Need-loop-again Inv-loop μ-loop
-loop-again c = each-next (c .before .before .before .before .loop .inv) (c .before .before .before .loop-test .taken) _
+loop-again c =
+    let turn : tie.In-loop Inv-loop μ-loop = search in
+    each-next (turn .before .loop .inv) (turn .loop-test .taken) _
     (sym (c .before .grant-good .ensures) ∙ c .if1 .taken)
 
 returns : tie.Need-returns Inv-loop μ-loop
-returns c = each-fails (c .before .before .before .before .loop .inv) (c .before .before .before .loop-test .taken) _
+returns c =
+    let turn : tie.In-loop Inv-loop μ-loop = search in
+    each-fails (turn .before .loop .inv) (turn .loop-test .taken) _
     (sym (c .before .grant-good .ensures) ∙ c .if1 .left)
 
 returns-2 : tie.Need-returns-2 Inv-loop μ-loop

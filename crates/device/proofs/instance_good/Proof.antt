@@ -7,13 +7,14 @@ use Rattle.device.proofs.instance_good.Statement.{statement}
 use Rattle.device.proofs.instance_good.Tie as tie
 
 returns : tie.Need-returns
-returns c = rw (
-  part-test (λ k. not (isProvider (k .component)))
-      (partsIn (c .before .before .before .before .before .before .args .parts))
-      (c .before .before .before .before .before .before .args .e .component),
-  c .before .has-part .ensures,
-  c .before .before .before .before .before .part-at .ensures,
-)
+returns c =
+    let start : tie.Start = search in
+    let found : tie.After-part-at = search in
+    rw (
+      part-test (λ k. not (isProvider (k .component))) (partsIn (start .args .parts)) (start .args .e .component),
+      c .before .has-part .ensures,
+      found .part-at .ensures,
+    )
 
 pub instance-good-spec : {M : Type 1} → statement M
 instance-good-spec = tie.close (tie.spec (λ c κs. search needs) (λ c κs. search needs) returns)

@@ -17,22 +17,19 @@ groups c =
     omega (arith, app-counts (c .args .t1) (c .pre) .grouped)
 
 bytes-are-groups-requires : tie.Need-bytes-are-groups-requires
-bytes-are-groups-requires c κs = groups (c .before .before .before)
+bytes-are-groups-requires c κs = groups (search)
 
 bytes-distinct-requires : tie.Need-bytes-distinct-requires
-bytes-distinct-requires c κs = grants (c .before .before .before .before .before .before .before)
+bytes-distinct-requires c κs = grants (search)
 
 bytes-distinct-requires-2 : tie.Need-bytes-distinct-requires-2
-bytes-distinct-requires-2 c κs =
-    groups (c .before .before .before .before .before .before .before .before .before .before .before)
+bytes-distinct-requires-2 c κs = groups (search)
 
 returns : tie.Need-returns
 returns c =
-    rw (
-      c .before .before .before .before .before .before .before .before .bytes-are-groups .ensures,
-      c .before .before .before .before .bytes-distinct .ensures,
-      c .bytes-distinct2 .ensures,
-    )
+    let groups : tie.After-bytes-are-groups = search in
+    let grants : tie.After-bytes-distinct = search in
+    rw (groups .bytes-are-groups .ensures, grants .bytes-distinct .ensures, c .bytes-distinct2 .ensures)
 
 pub lists-good-spec : {M : Type 1} → statement M
 lists-good-spec =

@@ -18,11 +18,15 @@ loop-holds : tie.Need-loop-holds Inv-loop μ-loop
 loop-holds c = some-from (c .args .i) (omega (arith, long c)) (omega arith)
 
 returns : tie.Need-returns Inv-loop μ-loop
-returns c = some-hits (c .before .before .before .before .loop .inv) (c .before .before .before .loop-test .taken) _
+returns c =
+    let turn : tie.In-loop Inv-loop μ-loop = search in
+    some-hits (turn .before .loop .inv) (turn .loop-test .taken) _
     (sym (c .before .same-loan .ensures) ∙ c .if1 .taken)
 
 loop-again : tie.Need-loop-again Inv-loop μ-loop
-loop-again c = some-next (c .before .before .before .before .loop .inv) (c .before .before .before .loop-test .taken) _
+loop-again c =
+    let turn : tie.In-loop Inv-loop μ-loop = search in
+    some-next (turn .before .loop .inv) (turn .loop-test .taken) _
     (sym (c .before .same-loan .ensures) ∙ c .if1 .left)
 
 returns-2 : tie.Need-returns-2 Inv-loop μ-loop

@@ -9,14 +9,15 @@ use Rattle.device.proofs.loan_good.Tie as tie
 
 returns : tie.Need-returns
 unfolding isOperations
-returns c = rw (
-  part-test-or isSharingProvider refl
-      (partsIn (c .before .before .before .before .before .before .before .before .args .d .parts))
-      (c .before .before .before .before .before .before .before .before .args .x .provider),
-  c .before .before .before .before .before .before .before .live .ensures,
-  c .before .before .before .before .before .before .part-at .ensures,
-  c .before .before .has-resource .ensures,
-)
+returns c =
+    let start : tie.Start = search in
+    let found : tie.After-part-at = search in
+    rw (
+      part-test-or isSharingProvider refl (partsIn (start .args .d .parts)) (start .args .x .provider),
+      found .before .live .ensures,
+      found .part-at .ensures,
+      c .before .before .has-resource .ensures,
+    )
 
 pub loan-good-spec : {M : Type 1} → statement M
 loan-good-spec = tie.close (tie.spec (λ c κs. search needs) (λ c κs. search needs) (λ c κs. search needs) returns)

@@ -22,7 +22,9 @@ loop-holds : tie.Need-loop-holds Inv-loop μ-loop
 loop-holds c = filled-begin (omega (arith, long (c .before))) (omega arith) (c .no-owners .ensures)
 
 loop-again : tie.Need-loop-again Inv-loop μ-loop
-loop-again c = filled-next (c .before .before .before .loop .inv) (c .before .before .loop-test .taken) zeroResource _
+loop-again c =
+    let turn : tie.In-loop Inv-loop μ-loop = search in
+    filled-next (turn .before .loop .inv) (turn .loop-test .taken) zeroResource _
     (ap (λ (k : Part). k .app) (c .part-at .ensures))
 
 returns : tie.Need-returns Inv-loop μ-loop

@@ -20,15 +20,13 @@ loop-holds c = each-from 0 (omega (arith, long c)) (omega arith)
 
 loop-again : tie.Need-loop-again Inv-loop μ-loop
 loop-again c =
-    each-next (c .before .before .before .before .before .loop .inv)
-    (c .before .before .before .before .loop-test .taken) _
-    (lt-ltb _ _ (c .if1 .taken))
+    let turn : tie.In-loop Inv-loop μ-loop = search in
+    each-next (turn .before .loop .inv) (turn .loop-test .taken) _ (lt-ltb _ _ (c .if1 .taken))
 
 returns : tie.Need-returns Inv-loop μ-loop
 returns c =
-    each-fails (c .before .before .before .before .before .loop .inv)
-    (c .before .before .before .before .loop-test .taken) _
-    (le-ltb _ _ (c .if1 .left))
+    let turn : tie.In-loop Inv-loop μ-loop = search in
+    each-fails (turn .before .loop .inv) (turn .loop-test .taken) _ (le-ltb _ _ (c .if1 .left))
 
 returns-2 : tie.Need-returns-2 Inv-loop μ-loop
 returns-2 c = each-ends (c .before .loop .inv) (c .loop-test .left)

@@ -21,11 +21,15 @@ loop-holds : tie.Need-loop-holds Inv-loop μ-loop
 loop-holds c = each-from 0 (omega (arith, long c)) (omega arith)
 
 loop-again : tie.Need-loop-again Inv-loop μ-loop
-loop-again c = each-next (c .before .before .before .before .loop .inv) (c .before .before .before .loop-test .taken) _
+loop-again c =
+    let turn : tie.In-loop Inv-loop μ-loop = search in
+    each-next (turn .before .loop .inv) (turn .loop-test .taken) _
     (sym (c .before .installed .ensures) ∙ c .if1 .taken)
 
 returns : tie.Need-returns Inv-loop μ-loop
-returns c = each-fails (c .before .before .before .before .loop .inv) (c .before .before .before .loop-test .taken) _
+returns c =
+    let turn : tie.In-loop Inv-loop μ-loop = search in
+    each-fails (turn .before .loop .inv) (turn .loop-test .taken) _
     (sym (c .before .installed .ensures) ∙ c .if1 .left)
 
 returns-2 : tie.Need-returns-2 Inv-loop μ-loop

@@ -32,22 +32,20 @@ loop-holds : tie.Need-loop-holds Inv-loop μ-loop
 loop-holds c = rise-of-begin 32 (omega (arith, long c))
 
 -- the owner that the array has is the one that the components tell
-owner : (c : tie.After-e Inv-loop μ-loop)
-    → getD (c .before .before .before .args .t2) (c .before .before .loop .i) 0
-    ≡ partOr (partsIn (c .before .before .before .args .parts))
-    (getD (c .before .before .before .args .t1 .entries) (c .before .before .loop .i) zeroResource .provider) .app
+owner : (c : tie.After-e Inv-loop μ-loop) → let turn = c .before .before in let args = turn .before .args in
+    getD (args .t2) (turn .loop .i) 0
+    ≡ partOr (partsIn (args .parts)) (getD (args .t1 .entries) (turn .loop .i) zeroResource .provider) .app
 owner c =
-    let s = c .before .before .before in
-    ap (λ (l : List ℕ). getD l (c .before .before .loop .i) 0) (s .pre .1 .1 .0)
+    let turn = c .before .before in
+    let s = turn .before in
+    ap (λ (l : List ℕ). getD l (turn .loop .i) 0) (s .pre .1 .1 .0)
     ∙ filled-at (λ r. partOr (partsIn (s .args .parts)) (r .provider) .app) 0 _ zeroResource (s .args .t1 .entries)
-    (s .args .t1 .count) (c .before .before .loop .i) (c .before .loop-test .taken) (omega (arith, long s))
+    (s .args .t1 .count) (turn .loop .i) (c .before .loop-test .taken) (omega (arith, long s))
 
 -- the resource at the place is the app's
-its-own : (c : tie.Then1 Inv-loop μ-loop)
-    → eqb (partOr (partsIn (c .before .before .before .before .args .parts))
-    (getD (c .before .before .before .before .args .t1 .entries) (c .before .before .before .loop .i)
-    zeroResource .provider) .app)
-    (c .before .before .before .before .args .app) ≡ true
+its-own : (c : tie.Then1 Inv-loop μ-loop) → let turn = c .before .before .before in let args = turn .before .args in
+    eqb (partOr (partsIn (args .parts)) (getD (args .t1 .entries) (turn .loop .i) zeroResource .provider) .app)
+    (args .app) ≡ true
 its-own c = eq-eqb _ _ (sym (owner (c .before)) ∙ c .if1 .taken)
 
 mine : (s : tie.Start Inv-loop μ-loop) (p : ℕ)
@@ -56,17 +54,17 @@ mine : (s : tie.Start Inv-loop μ-loop) (p : ℕ)
 mine s p = owned (partsIn (s .args .parts)) (s .pre .1 .0) (s .args .app) (s .pre .1 .1 .1) p
 
 -- its test, as the law asks for it
-test-is : (c : tie.After-provided Inv-loop μ-loop) → c .provided .result
-    ≡ goodResource (componentsOf (c .before .before .before .before .before .before .args .app)
-    (partsIn (c .before .before .before .before .before .before .args .parts)))
-    (getD (c .before .before .before .before .before .before .args .t1 .entries)
-    (c .before .before .before .before .before .loop .i) zeroResource)
+test-is : (c : tie.After-provided Inv-loop μ-loop) → let turn : tie.At-loop Inv-loop μ-loop = search in
+    let args = turn .before .args in
+    c .provided .result
+    ≡ goodResource (componentsOf (args .app) (partsIn (args .parts)))
+    (getD (args .t1 .entries) (turn .loop .i) zeroResource)
 test-is c =
-    let s = c .before .before .before .before .before .before in
+    let turn : tie.At-loop Inv-loop μ-loop = search in
+    let s = turn .before in
     c .provided .ensures
     ∙ sym (good-if-provided (partsIn (s .args .parts)) (s .pre .1 .0) (s .args .app) (s .pre .1 .1 .1)
-    (getD (s .args .t1 .entries) (c .before .before .before .before .before .loop .i) zeroResource)
-    (its-own (c .before .before)))
+    (getD (s .args .t1 .entries) (turn .loop .i) zeroResource) (its-own (search)))
 
 whole : (s : tie.Start Inv-loop μ-loop) {b : Bool}
     → b ≡ fewRising resourceKey (goodResource (componentsOf (s .args .app) (partsIn (s .args .parts)))) 32 0
@@ -77,27 +75,30 @@ whole s e = e ∙ ap (goodResources (componentsOf (s .args .app) (partsIn (s .ar
     (map-same (resourcesOf (s .args .app) (partsIn (s .args .parts)) (resourcesIn (s .args .t1))))
 
 returns : tie.Need-returns Inv-loop μ-loop
-returns c = whole (c .before .before .before .before .before .before .before)
-    (rise-of-fails (c .before .before .before .before .before .before .loop .inv)
-    (c .before .before .before .before .before .loop-test .taken) zeroResource
-    (mine (c .before .before .before .before .before .before .before) _ ∙ its-own (c .before .before .before))
+returns c =
+    let turn : tie.In-loop Inv-loop μ-loop = search in
+    whole (search) (rise-of-fails (turn .before .loop .inv) (turn .loop-test .taken) zeroResource
+    (mine (search) _ ∙ its-own (search))
     (rw (← c .before .before .resource-key .ensures, ← test-is (c .before)) (not-true _ (c .if2 .taken))))
 
 sub-room : tie.Need-sub-room Inv-loop μ-loop
 sub-room c =
-    ltb-true 0 (c .before .before .before .before .before .before .loop .room)
-    (and-left (ltb 0 (c .before .before .before .before .before .before .loop .room)) _ (not-false _ (c .if2 .left)))
+    let turn : tie.At-loop Inv-loop μ-loop = search in
+    ltb-true 0 (turn .loop .room) (and-left (ltb 0 (turn .loop .room)) _ (not-false _ (c .if2 .left)))
 
 loop-again : tie.Need-loop-again Inv-loop μ-loop
-loop-again c = rw (c .before .before .resource-key .ensures)
-    (rise-of-takes (c .before .before .before .before .before .before .loop .inv)
-    (c .before .before .before .before .before .loop-test .taken) zeroResource
-    (mine (c .before .before .before .before .before .before .before) _ ∙ its-own (c .before .before .before))
+loop-again c =
+    let turn : tie.In-loop Inv-loop μ-loop = search in
+    rw (c .before .before .resource-key .ensures)
+    (rise-of-takes (turn .before .loop .inv) (turn .loop-test .taken) zeroResource
+    (mine (search) _ ∙ its-own (search))
     (rw (← c .before .before .resource-key .ensures, ← test-is (c .before)) (not-false _ (c .if2 .left))))
 
 loop-again-2 : tie.Need-loop-again-2 Inv-loop μ-loop
-loop-again-2 c = rise-of-skips (c .before .before .before .loop .inv) (c .before .before .loop-test .taken) zeroResource
-    (mine (c .before .before .before .before) _ ∙ ne-eqb _ _ (λ e. c .if1 .left (owner (c .before) ∙ e)))
+loop-again-2 c =
+    let turn : tie.In-loop Inv-loop μ-loop = search in
+    rise-of-skips (turn .before .loop .inv) (turn .loop-test .taken) zeroResource
+    (mine (search) _ ∙ ne-eqb _ _ (λ e. c .if1 .left (owner (c .before) ∙ e)))
 
 returns-2 : tie.Need-returns-2 Inv-loop μ-loop
 returns-2 c = whole (c .before .before) (rise-of-ends (c .before .loop .inv) (c .loop-test .left))

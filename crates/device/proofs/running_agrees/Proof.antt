@@ -23,23 +23,30 @@ digit c t e = ap bit (sym (c .has-instance .ensures) ∙ e)
 
 returns : tie.Need-returns Inv-loop μ-loop
 unfolding maskOf
-returns c = digits-fail (c .before .before .before .before .loop .inv) (c .before .before .before .loop-test .taken)
+returns c =
+    let turn : tie.In-loop Inv-loop μ-loop = search in
+    digits-fail (turn .before .loop .inv) (turn .loop-test .taken)
     (λ e. let z : 0 ≡ 1 = sym (c .if2 .taken) ∙ e ∙ digit (c .before .before) true (c .before .if1 .taken) in omega
     arith)
 
 loop-again : tie.Need-loop-again Inv-loop μ-loop
-loop-again c = digits-next (c .before .before .before .before .loop .inv) (c .before .before .before .loop-test .taken)
+loop-again c =
+    let turn : tie.In-loop Inv-loop μ-loop = search in
+    digits-next (turn .before .loop .inv) (turn .loop-test .taken)
     (omega (arith, c .if2 .left) ∙ sym (digit (c .before .before) true (c .before .if1 .taken)))
 
 returns-2 : tie.Need-returns-2 Inv-loop μ-loop
 unfolding maskOf
-returns-2 c = digits-fail (c .before .before .before .before .loop .inv) (c .before .before .before .loop-test .taken)
+returns-2 c =
+    let turn : tie.In-loop Inv-loop μ-loop = search in
+    digits-fail (turn .before .loop .inv) (turn .loop-test .taken)
     (λ e. let z : 1 ≡ 0 = sym (c .if3 .taken) ∙ e ∙ digit (c .before .before) false (c .before .if1 .left) in omega
     arith)
 
 loop-again-2 : tie.Need-loop-again-2 Inv-loop μ-loop
 loop-again-2 c =
-    digits-next (c .before .before .before .before .loop .inv) (c .before .before .before .loop-test .taken)
+    let turn : tie.In-loop Inv-loop μ-loop = search in
+    digits-next (turn .before .loop .inv) (turn .loop-test .taken)
     (omega (arith, c .if3 .left) ∙ sym (digit (c .before .before) false (c .before .if1 .left)))
 
 returns-3 : tie.Need-returns-3 Inv-loop μ-loop

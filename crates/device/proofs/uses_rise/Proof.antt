@@ -16,12 +16,14 @@ loop-holds c = rise-begin (c .pre)
 
 returns : tie.Need-returns Inv-loop μ-loop
 returns c =
-    rise-fails (c .before .before .before .loop .inv) (c .before .before .loop-test .taken) _
+    let turn : tie.In-loop Inv-loop μ-loop = search in
+    rise-fails (turn .before .loop .inv) (turn .loop-test .taken) _
     (not-true _ (c .if1 .taken))
 
 loop-again : tie.Need-loop-again Inv-loop μ-loop
 loop-again c =
-    rise-next (c .before .before .before .loop .inv) (c .before .before .loop-test .taken) _
+    let turn : tie.In-loop Inv-loop μ-loop = search in
+    rise-next (turn .before .loop .inv) (turn .loop-test .taken) _
     (not-false _ (c .if1 .left))
 
 returns-2 : tie.Need-returns-2 Inv-loop μ-loop

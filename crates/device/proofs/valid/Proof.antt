@@ -1,6 +1,6 @@
 -- A device that is not well formed is not valid; of one that is the lists are tested.
 use Rattle.state.specs.Stored.{validStored}
-use Rattle.device.proofs.Kit.{_≡_, _∙_, sym, needs, not-true, not-false, length, eq-eqb}
+use Rattle.device.proofs.Kit.{_≡_, _∙_, needs, length, eq-eqb, holds, fails}
 use Rattle.device.proofs.valid.Statement.{statement}
 use Rattle.device.proofs.valid.Tie as tie
 
@@ -11,7 +11,7 @@ returns : tie.Need-returns
 unfolding validStored
 returns c = rw (
   eq-eqb _ _ (long (c .before .before)),
-  sym (c .before .well-formed .ensures) ∙ not-true _ (c .if1 .taken),
+  fails (c .before .well-formed .ensures) (c .if1 .taken),
 )
 
 returns-2 : tie.Need-returns-2
@@ -19,8 +19,7 @@ unfolding validStored
 returns-2 c = c .lists-valid .ensures
     ∙ rw (
       eq-eqb _ _ (long (c .before .before .before)),
-      sym (c .before .before .well-formed .ensures) ∙ not-false _
-          (c .before .if1 .left),
+      holds (c .before .before .well-formed .ensures) (c .before .if1 .left),
     )
 
 pub valid-spec : {M : Type 1} → statement M
@@ -29,5 +28,5 @@ valid-spec =
     (tie.spec
     (λ c κs. search needs)
     returns
-    (λ c κs. sym (c .before .well-formed .ensures) ∙ not-false _ (c .if1 .left))
+    (λ c κs. holds (c .before .well-formed .ensures) (c .if1 .left))
     returns-2)
