@@ -9,7 +9,6 @@ use lib.Dec.{eqb}
 use Rattle.rules.specs.declared.Known.{Known}
 use Rattle.rules.specs.Lists.{any, mem, find, mapOption}
 use Rattle.rules.specs.ListsLaws.{any-map, find-map, map-map}
-use Rattle.rules.specs.View.{App as RulesApp}
 use Rattle.state.specs.declared.App.{App}
 use Rattle.state.specs.Stored.{rowOf}
 use Rattle.state.specs.Tables.{appNumber, appsOf, appAt, grantedIn, groupedIn}

@@ -21,7 +21,8 @@ pub ran-none : (s : List ℕ) (h : Held) (out : List ℕ) (from : ℕ) → RanAt
 unfolding heldAt runLines
 ran-none s h out from = record { held = refl; lines = nothing out from }
 
-pub ran-more : {s : List ℕ} {h : Held} {old : List ℕ} {from i : ℕ} {d : Device} {lent : List Loan} {out : List ℕ} {at : ℕ}
+pub ran-more : {s : List ℕ} {h : Held} {old : List ℕ} {from i : ℕ} {d : Device} {lent : List Loan} {out : List ℕ}
+    {at : ℕ}
     → RanAt s h old from i (heldBy d lent) out at → {new : List ℕ} {to p : ℕ} (next : Stepped) → TapeAt s p
     → next ≡ stepped s d lent i
     → Written out at (lineText (i + 1) (getD s (p + 2 + 12 * i) 0) (next .answer)) new to

@@ -230,7 +230,8 @@ fn put_refused(out: &mut [u8]) -> Wrote
 fn put_run(tape: &[u8], p: usize, n: usize, out: &mut [u8], from: usize) -> usize
     requires { ⌜ TapeAt (now tape) p × ((p + 2 + 12 * n ≤ length (now tape)) × (n ≤ 2048)) ⌝ }
     requires { ⌜ from + 24 * n + 85 ≤ length (now out) ⌝ }
-    ensures { λ r. ⌜ Written (now (out .entry)) from (runText monitorSteps (now (tape .entry)) n) (now (out .exit)) r ⌝ }
+    ensures { λ r. ⌜ Written (now (out .entry)) from (runText monitorSteps (now (tape .entry)) n)
+        (now (out .exit)) r ⌝ }
     ensures { λ r. ⌜ r ≤ from + 24 * n + 85 ⌝ }
 {
     let lines = put_lines(tape, p, n, fresh_device(), zero_loans(), out, from);

@@ -9,7 +9,8 @@ returns c =
     let count = c .before .before .before in
     let lines = count .before .before .before .before .before in
     let fresh = lines .before .before in
-    let told = ran-all (fresh .before .fresh-device .ensures) (fresh .zero-loans .ensures) (lines .put-lines .ensures .0) _
+    let told = ran-all (fresh .before .fresh-device .ensures) (fresh .zero-loans .ensures)
+    (lines .put-lines .ensures .0) _
     (count .running-count .ensures) (c .before .before .put-counts .ensures .0) in
     (told, omega arith)
 

@@ -9,7 +9,8 @@ use Rattle.tape.proofs.run.Tie as tie
 u16-at-requires : tie.Need-u16-at-requires
 u16-at-requires c κs =
     let start = c .before .before .before in
-    let t = told-at (start .before .before .before .args .tape .now) (start .start-of .ensures) (c .before .p .given .1) in
+    let t = told-at (start .before .before .before .args .tape .now) (start .start-of .ensures) (c .before .p .given .1)
+    in
     omega (arith, tape-ends t)
 
 mul-if1 : tie.Need-mul-if1
