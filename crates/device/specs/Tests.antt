@@ -1,10 +1,11 @@
 -- What an app's manifest would have, from the tables; and the tests of a valid state as the code makes them, all tests
 -- of an entry together. Document 01, "A valid state".
-use Prim.Native.Nat.{ℕ, _≤_}
+use Prim.Native.Nat.{ℕ, zero, suc, _≤_}
 use mathlib.Core.Path.{_≡_}
-use mathlib.Core.Bool.{Bool, true, not, _&&_, _||_}
-use mathlib.Core.List.{List, [], map}
+use mathlib.Core.Bool.{Bool, true, false, not, _&&_, _||_}
+use mathlib.Core.List.{List, [], _∷_, map}
 use lib.Dec.{eqb, leb, ltb}
+use lib.ListN.{getD}
 use Rattle.manifest.specs.declared.Define.{Define}
 use Rattle.manifest.specs.declared.Component.{Component}
 use Rattle.manifest.specs.declared.Resource.{Resource}
@@ -14,10 +15,10 @@ use Rattle.rules.specs.declared.Definition.{Definition}
 use Rattle.rules.specs.declared.Part.{Part}
 use Rattle.rules.specs.declared.Instance.{Instance}
 use Rattle.rules.specs.declared.Loan.{Loan}
-use Rattle.rules.specs.Lists.{any, all, keep, distinct, orElse, test}
+use Rattle.rules.specs.Lists.{any, all, keep, mem, distinct, orElse, test}
 use Rattle.rules.specs.Action.{isOperations}
 use Rattle.rules.specs.View.{App}
-use Rattle.rules.specs.Permissions.{known}
+use Rattle.rules.specs.Permissions.{known, dangerous}
 use Rattle.rules.specs.Refusals.{grantable, isGroup}
 use Rattle.state.specs.Tables.{Row, State, appNumber, partAt, ownedBy, isResource}
 use Rattle.state.specs.Valid.{isInstalled, isSharingProvider, sameApp, samePart, sameResource, samePermission}
@@ -54,6 +55,21 @@ manifestIn ds ks rs a =
 -- a listed, defined, dangerous permission
 abbrev pub goodGrantIn : List Row → List Definition → App → ℕ → Bool
 goodGrantIn rs ds a p = test (known (viewBy rs ds [] []) p) (λ k. grantable a p k)
+
+-- the same by a list that says of each permission, 0 to 63, if it is defined and dangerous
+abbrev pub isDangerous : List Row → List Definition → ℕ → Bool
+isDangerous rs ds p = test (known (viewBy rs ds [] []) p) dangerous
+
+-- the n numbers from k on
+unfoldable pub numbersFrom : (k n : ℕ) → List ℕ
+numbersFrom k zero = []
+numbersFrom k (suc n) = k ∷ numbersFrom (suc k) n
+
+abbrev pub dangerousIn : List Row → List Definition → List Bool
+dangerousIn rs ds = map (isDangerous rs ds) (numbersFrom 0 64)
+
+abbrev pub goodGrantBy : List Bool → App → ℕ → Bool
+goodGrantBy ts a p = mem p (a .uses) && getD ts p false
 
 -- the component of a number, with its app; all zero where there is none
 abbrev pub partOr : List Part → ℕ → Part

@@ -18,7 +18,7 @@ use tables::Look;
 use tables::Place;
 ghost use Prim.Native.Nat.{_≤_, _<_};
 ghost use mathlib.Core.Path.{_≡_};
-ghost use mathlib.Core.Bool.{true, _&&_};
+ghost use mathlib.Core.Bool.{true, false, _&&_};
 ghost use mathlib.Core.List.{[]};
 ghost use lib.ListN.{length, take};
 ghost use lib.Seq.{slice};
@@ -37,7 +37,7 @@ ghost use Rattle.state.specs.Stored.{isZeroLoan, isZeroApp, appPads, pads, padd
 ghost use Rattle.state.specs.Stored.{modelOf, validStored};
 ghost use Rattle.tables.specs.Held.{rowsIn, definitionsIn, partsIn, resourcesIn, instancesIn};
 ghost use Rattle.device.specs.Tests.{definesOf, componentsOf, resourcesOf, manifestIn, partOr, ownersIn};
-ghost use Rattle.device.specs.Tests.{goodInstance, goodLoan, liveIn, goodGrantIn};
+ghost use Rattle.device.specs.Tests.{goodInstance, goodLoan, liveIn, isDangerous, dangerousIn, goodGrantBy};
 ghost use Rattle.device.specs.Tests.{AppsReady, goodRow, goodNumbers, goodOwners, goodRuns, goodLending};
 
 // ---- unused places are zero
@@ -887,17 +887,46 @@ fn live(x: Loan, apps: Apps, instances: Instances) -> bool
 
 // ---- grants and groups
 
-/// The first n of the bytes are listed, defined, dangerous permissions of the app.
-fn grants_good(a: App, apps: Apps, definitions: Definitions) -> bool
+/// Which of the permissions 0 to 63 are defined and dangerous; `dangerous[p]` says so of permission p.
+fn dangerous_in(apps: Apps, definitions: Definitions) -> [bool; 64]
+    ensures { λ r. ⌜ r ≡ dangerousIn (rowsIn apps) (definitionsIn definitions) ⌝ }
+{
+    let mut dangerous = none_dangerous();
+    let mut p: u16 = 0;
+    while p < 64 {
+        let i = p as usize;
+        dangerous[i] = is_dangerous(apps, definitions, p);
+        p += 1;
+    }
+    dangerous
+}
+
+fn none_dangerous() -> [bool; 64]
+    ensures { λ r. ⌜ r ≡ padded false 64 [] ⌝ }
+{
+    [false; 64]
+}
+
+fn is_dangerous(apps: Apps, definitions: Definitions, permission: u16) -> bool
+    ensures { λ r. ⌜ r ≡ isDangerous (rowsIn apps) (definitionsIn definitions) permission ⌝ }
+{
+    let look = tables::known_of(apps, definitions, permission);
+    match look {
+        Look::Undefined => false,
+        Look::Found(k) => k.level == 1,
+    }
+}
+
+/// The app's grants are listed, dangerous permissions.
+fn grants_good(a: App, dangerous: [bool; 64]) -> bool
     requires { ⌜ appPads a ≡ true ⌝ }
-    ensures { λ r. ⌜ r ≡ all (goodGrantIn (rowsIn apps) (definitionsIn definitions) (rowOf a .app)) (rowOf a
-        .grants) ⌝ }
+    ensures { λ r. ⌜ r ≡ all (goodGrantBy dangerous (rowOf a .app)) (rowOf a .grants) ⌝ }
 {
     let n = a.granted as usize;
     let mut i: usize = 0;
     while i < n {
         let p = a.grants[i];
-        if grant_good(a, apps, definitions, p) {
+        if grant_good(a, dangerous, p) {
             i += 1;
         } else {
             return false;
@@ -906,20 +935,16 @@ fn grants_good(a: App, apps: Apps, definitions: Definitions) -> bool
     true
 }
 
-/// A permission that the app does not list is not looked up.
-fn grant_good(a: App, apps: Apps, definitions: Definitions, permission: u8) -> bool
-    ensures { λ r. ⌜ r ≡ goodGrantIn (rowsIn apps) (definitionsIn definitions) (rowOf a .app) permission ⌝ }
+fn grant_good(a: App, dangerous: [bool; 64], permission: u8) -> bool
+    ensures { λ r. ⌜ r ≡ goodGrantBy dangerous (rowOf a .app) permission ⌝ }
 {
-    let n = a.used as usize;
-    let p = permission as u16;
-    if !tables::has_byte(&a.uses, n, p) {
+    if 63 < permission {
         return false;
     }
-    let look = tables::known_of(apps, definitions, p);
-    match look {
-        Look::Undefined => false,
-        Look::Found(k) => k.level == 1,
-    }
+    let i = permission as usize;
+    let n = a.used as usize;
+    let p = permission as u16;
+    tables::has_byte(&a.uses, n, p) & dangerous[i]
 }
 
 fn lists_good(a: App) -> bool
@@ -969,18 +994,19 @@ fn manifest_good(
     resources_good(resources, owners, parts, a.number)
 }
 
-/// All tests of the apps of a table; the owners of the resources are looked up once.
+/// All tests of the apps of a table; the owners of the resources and the dangerous permissions are looked up once.
 fn apps_good(apps: Apps, definitions: Definitions, parts: Parts, resources: Resources) -> bool
     requires { ⌜ AppsReady apps definitions parts resources ⌝ }
     ensures { λ r. ⌜ r ≡ all (goodRow (rowsIn apps) (definitionsIn definitions) (partsIn parts) (resourcesIn
         resources)) (rowsIn apps) ⌝ }
 {
     let owners = owners_of(resources, parts);
+    let dangerous = dangerous_in(apps, definitions);
     let n = apps.count;
     let mut i: usize = 0;
     while i < n {
         let a = apps.entries[i];
-        if app_good(a, apps, definitions, parts, resources, owners) {
+        if app_good(a, apps, definitions, parts, resources, owners, dangerous) {
             i += 1;
         } else {
             return false;
@@ -996,17 +1022,19 @@ fn app_good(
     parts: Parts,
     resources: Resources,
     owners: [u16; 128],
+    dangerous: [bool; 64],
 ) -> bool
     requires { ⌜ AppsReady apps definitions parts resources ⌝ }
     requires { ⌜ appPads a ≡ true ⌝ }
     requires { ⌜ owners ≡ padded 0 128 (ownersIn (partsIn parts) (resourcesIn resources)) ⌝ }
+    requires { ⌜ dangerous ≡ dangerousIn (rowsIn apps) (definitionsIn definitions) ⌝ }
     ensures { λ r. ⌜ r ≡ goodRow (rowsIn apps) (definitionsIn definitions) (partsIn parts) (resourcesIn
         resources) (rowOf a) ⌝ }
 {
     if !manifest_good(a, definitions, parts, resources, owners) {
         return false;
     }
-    if !grants_good(a, apps, definitions) {
+    if !grants_good(a, dangerous) {
         return false;
     }
     lists_good(a)

@@ -5,36 +5,38 @@ use Rattle.tables.specs.Held.{rowsIn, definitionsIn, partsIn, resourcesIn}
 use Rattle.tables.specs.LookingLaws.{blankApp}
 use Rattle.device.specs.Tests.{goodRow}
 use Rattle.device.specs.StoredLaws.{all-get}
-use Rattle.device.proofs.Kit.{_-_, _≡_, _∙_, sym, arith, length, length-map, take, all}
+use Rattle.device.proofs.Kit.{_-_, _≡_, _∙_, sym, arith, needs, length, length-map, take, all}
 use Rattle.device.proofs.Kit.{Each, each-from, each-next, each-fails, each-ends}
 use Rattle.device.proofs.apps_good.Statement.{statement}
 use Rattle.device.proofs.apps_good.Tie as tie
 
 abbrev Inv-loop : tie.InvT-loop
-Inv-loop definitions parts resources apps owners n i₀ i =
+Inv-loop definitions parts resources apps owners dangerous n i₀ i =
     Each (λ a. goodRow (rowsIn apps) (definitionsIn definitions) (partsIn parts) (resourcesIn resources) (rowOf a))
     (apps .entries) n
     (all (λ a. goodRow (rowsIn apps) (definitionsIn definitions) (partsIn parts) (resourcesIn resources) (rowOf a))
     (take n (apps .entries))) i
 
 abbrev μ-loop : tie.MeasureT-loop
-μ-loop definitions parts resources apps owners n i₀ i = n - i
+μ-loop definitions parts resources apps owners dangerous n i₀ i = n - i
 
 long : (c : tie.Start Inv-loop μ-loop) → length (c .args .t1 .entries) ≡ 16
 long c = sym (length-map (c .args .t1 .entries) _) ∙ c .good .0 .1 .1 .0 .1 .0 .1
 
 loop-holds : tie.Need-loop-holds Inv-loop μ-loop
-loop-holds c = each-from 0 (omega (arith, long (c .before), c .before .pre .appsCount)) (omega arith)
+loop-holds c =
+    let s : tie.Start Inv-loop μ-loop = search in
+    each-from 0 (omega (arith, long s, s .pre .appsCount)) (omega arith)
 
 app-good-requires : tie.Need-app-good-requires Inv-loop μ-loop
 app-good-requires c κs =
-    let s = c .before .before .before .before in (
+    let s : tie.Start Inv-loop μ-loop = search in (
       s .pre,
       (
         all-get appPads (s .args .t1 .entries) (s .args .t1 .count) (c .before .before .loop .i) blankApp
             (s .pre .lists)
             (c .before .loop-test .taken) (omega (arith, long s, s .pre .appsCount, c .before .loop-test .taken)),
-        c .before .before .before .owners-of .ensures,
+        (c .before .before .before .before .owners-of .ensures, c .before .before .before .dangerous-in .ensures),
       ),
     )
 
@@ -60,9 +62,10 @@ apps-good-spec =
     Inv-loop
     μ-loop
     (λ c κs. c .pre .resourcesCount)
+    (λ c κs. search needs)
     loop-holds
-    (λ c. omega (arith, c .before .before .before .pre .appsCount))
-    (λ c. omega (arith, c .before .before .before .pre .appsCount))
+    (λ c. omega (arith, c .before .before .before .before .pre .appsCount))
+    (λ c. omega (arith, c .before .before .before .before .pre .appsCount))
     app-good-requires
     (λ c. omega arith)
     (λ c. omega arith)

@@ -1,7 +1,6 @@
 -- The loop tests every grant up to the count, or finds one that fails.
 use Rattle.state.specs.Stored.{rowOf}
-use Rattle.tables.specs.Held.{rowsIn, definitionsIn}
-use Rattle.device.specs.Tests.{goodGrantIn}
+use Rattle.device.specs.Tests.{goodGrantBy}
 use Rattle.device.specs.StoredLaws.{app-counts}
 use Rattle.device.proofs.Kit.{_≤_, _-_, _≡_, _∙_, sym, arith, needs, length, length-map, take, all}
 use Rattle.device.proofs.Kit.{Each, each-from, each-next, each-fails, each-ends}
@@ -9,12 +8,12 @@ use Rattle.device.proofs.grants_good.Statement.{statement}
 use Rattle.device.proofs.grants_good.Tie as tie
 
 abbrev Inv-loop : tie.InvT-loop
-Inv-loop apps definitions a n i₀ i =
-    Each (goodGrantIn (rowsIn apps) (definitionsIn definitions) (rowOf a .app)) (a .grants) n
-    (all (goodGrantIn (rowsIn apps) (definitionsIn definitions) (rowOf a .app)) (take n (a .grants))) i
+Inv-loop dangerous a n i₀ i =
+    Each (goodGrantBy dangerous (rowOf a .app)) (a .grants) n
+    (all (goodGrantBy dangerous (rowOf a .app)) (take n (a .grants))) i
 
 abbrev μ-loop : tie.MeasureT-loop
-μ-loop apps definitions a n i₀ i = n - i
+μ-loop dangerous a n i₀ i = n - i
 
 long : (c : tie.Start Inv-loop μ-loop) → length (c .args .t1 .grants) ≡ 32
 long c = sym (length-map (c .args .t1 .grants) _) ∙ c .good .0 .1 .1 .1 .1 .1 .1 .1 .0 .1 .0 .1
