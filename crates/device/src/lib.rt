@@ -878,11 +878,17 @@ fn loan_good(x: Loan, d: Device) -> bool
                 & ((c.kind == 4) & (c.shares == 1))))
 }
 
+/// The receiver is looked for in the table of its kind only.
 fn live(x: Loan, apps: Apps, instances: Instances) -> bool
     ensures { λ r. ⌜ r ≡ liveIn (rowsIn apps) (instancesIn instances) x ⌝ }
 {
-    ((x.kind == 1) & tables::has_instance(instances, x.receiver))
-        | ((x.kind == 2) & installed(apps, x.receiver))
+    if x.kind == 1 {
+        return tables::has_instance(instances, x.receiver);
+    }
+    if x.kind == 2 {
+        return installed(apps, x.receiver);
+    }
+    false
 }
 
 // ---- grants and groups
