@@ -1,6 +1,6 @@
 -- What the proofs of this crate cite. The record of a place in the code holds those of the places before it: a proof
 -- names one by its type, and `search` finds it.
-pub use Prim.Native.Nat.{ℕ, _-_, _≤_, _<_}
+pub use Prim.Native.Nat.{ℕ, _+_, _-_, _≤_, _<_}
 pub use mathlib.Core.Path.{_≡_, refl, sym, ap, _∙_}
 pub use mathlib.Core.Bool.{Bool, true, false, not, _&&_}
 pub use mathlib.Core.List.{List, [], map}

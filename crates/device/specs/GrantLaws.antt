@@ -1,5 +1,5 @@
--- A grant is good by the list of dangerous permissions exactly if it is by the definitions: what an app lists is at most
--- 63, and so has its place in that list.
+-- A grant is good by the list of dangerous permissions exactly if it is by the definitions: what an app lists is at
+-- most 63, and so has its place in that list.
 use Prim.Native.Nat.{ℕ, zero, suc, _+_, _≤_, _<_}
 use mathlib.Core.Path.{_≡_, refl, sym, ap, _∙_}
 use mathlib.Core.Bool.{Bool, true, false, _&&_}

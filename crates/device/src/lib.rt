@@ -21,7 +21,6 @@ ghost use mathlib.Core.Path.{_≡_};
 ghost use mathlib.Core.Bool.{true, false, _&&_};
 ghost use mathlib.Core.List.{[]};
 ghost use lib.ListN.{length, take};
-ghost use lib.Seq.{slice};
 ghost use lib.Dec.{eqb, ltb};
 ghost use Rattle.manifest.specs.Good.{goodDefines, goodComponents, goodResources, usesRise};
 ghost use Rattle.manifest.specs.Good.{isProvider, good};
@@ -274,7 +273,7 @@ fn running_agrees(t: Instances) -> bool
 
 // ---- no two are the same
 
-/// Each table's entries differ in what has to be unique; the inner loops look for an entry again from a place on.
+/// Each table's entries differ in what has to be unique; the inner loops look for an entry again among those after it.
 fn apps_distinct(t: Apps) -> bool
     requires { ⌜ t .count ≤ 16 ⌝ }
     ensures { λ r. ⌜ r ≡ distinct sameApp (rowsIn t) ⌝ }
@@ -283,31 +282,18 @@ fn apps_distinct(t: Apps) -> bool
     let mut i: usize = 0;
     while i < n {
         let e = t.entries[i];
-        if app_again(t, e.number, i + 1) {
-            return false;
-        } else {
-            i += 1;
+        let mut j = i + 1;
+        while j < n {
+            let f = t.entries[j];
+            if e.number == f.number {
+                return false;
+            } else {
+                j += 1;
+            }
         }
+        i += 1;
     }
     true
-}
-
-fn app_again(t: Apps, number: u16, i: usize) -> bool
-    requires { ⌜ t .count ≤ 16 ⌝ }
-    requires { ⌜ i ≤ t .count ⌝ }
-    ensures { λ r. ⌜ r ≡ any (λ e. eqb number (e .number)) (slice i (t .count) (t .entries)) ⌝ }
-{
-    let n = t.count;
-    let mut j = i;
-    while j < n {
-        let e = t.entries[j];
-        if number == e.number {
-            return true;
-        } else {
-            j += 1;
-        }
-    }
-    false
 }
 
 fn definitions_distinct(t: Definitions) -> bool
@@ -319,32 +305,19 @@ fn definitions_distinct(t: Definitions) -> bool
     while i < n {
         let e = t.entries[i];
         let d = e.define;
-        if definition_again(t, d.permission, i + 1) {
-            return false;
-        } else {
-            i += 1;
+        let mut j = i + 1;
+        while j < n {
+            let f = t.entries[j];
+            let g = f.define;
+            if d.permission == g.permission {
+                return false;
+            } else {
+                j += 1;
+            }
         }
+        i += 1;
     }
     true
-}
-
-fn definition_again(t: Definitions, permission: u8, i: usize) -> bool
-    requires { ⌜ t .count ≤ 256 ⌝ }
-    requires { ⌜ i ≤ t .count ⌝ }
-    ensures { λ r. ⌜ r ≡ any (λ e. eqb permission (e .define .permission)) (slice i (t .count) (t .entries)) ⌝ }
-{
-    let n = t.count;
-    let mut j = i;
-    while j < n {
-        let e = t.entries[j];
-        let d = e.define;
-        if permission == d.permission {
-            return true;
-        } else {
-            j += 1;
-        }
-    }
-    false
 }
 
 fn parts_distinct(t: Parts) -> bool
@@ -356,32 +329,19 @@ fn parts_distinct(t: Parts) -> bool
     while i < n {
         let e = t.entries[i];
         let c = e.component;
-        if part_again(t, c.number, i + 1) {
-            return false;
-        } else {
-            i += 1;
+        let mut j = i + 1;
+        while j < n {
+            let f = t.entries[j];
+            let g = f.component;
+            if c.number == g.number {
+                return false;
+            } else {
+                j += 1;
+            }
         }
+        i += 1;
     }
     true
-}
-
-fn part_again(t: Parts, number: u16, i: usize) -> bool
-    requires { ⌜ t .count ≤ 64 ⌝ }
-    requires { ⌜ i ≤ t .count ⌝ }
-    ensures { λ r. ⌜ r ≡ any (λ e. eqb number (e .component .number)) (slice i (t .count) (t .entries)) ⌝ }
-{
-    let n = t.count;
-    let mut j = i;
-    while j < n {
-        let e = t.entries[j];
-        let c = e.component;
-        if number == c.number {
-            return true;
-        } else {
-            j += 1;
-        }
-    }
-    false
 }
 
 fn resources_distinct(t: Resources) -> bool
@@ -392,31 +352,18 @@ fn resources_distinct(t: Resources) -> bool
     let mut i: usize = 0;
     while i < n {
         let e = t.entries[i];
-        if resource_again(t, e.provider, e.uri, i + 1) {
-            return false;
-        } else {
-            i += 1;
+        let mut j = i + 1;
+        while j < n {
+            let f = t.entries[j];
+            if is_resource(f, e.provider, e.uri) {
+                return false;
+            } else {
+                j += 1;
+            }
         }
+        i += 1;
     }
     true
-}
-
-fn resource_again(t: Resources, provider: u16, uri: u16, i: usize) -> bool
-    requires { ⌜ t .count ≤ 128 ⌝ }
-    requires { ⌜ i ≤ t .count ⌝ }
-    ensures { λ r. ⌜ r ≡ any (isResource provider uri) (slice i (t .count) (t .entries)) ⌝ }
-{
-    let n = t.count;
-    let mut j = i;
-    while j < n {
-        let e = t.entries[j];
-        if is_resource(e, provider, uri) {
-            return true;
-        } else {
-            j += 1;
-        }
-    }
-    false
 }
 
 fn is_resource(e: Resource, provider: u16, uri: u16) -> bool
@@ -433,31 +380,18 @@ fn instances_distinct(t: Instances) -> bool
     let mut i: usize = 0;
     while i < n {
         let e = t.entries[i];
-        if instance_again(t, e.number, i + 1) {
-            return false;
-        } else {
-            i += 1;
+        let mut j = i + 1;
+        while j < n {
+            let f = t.entries[j];
+            if e.number == f.number {
+                return false;
+            } else {
+                j += 1;
+            }
         }
+        i += 1;
     }
     true
-}
-
-fn instance_again(t: Instances, number: u8, i: usize) -> bool
-    requires { ⌜ t .count ≤ 64 ⌝ }
-    requires { ⌜ i ≤ t .count ⌝ }
-    ensures { λ r. ⌜ r ≡ any (λ e. eqb number (e .number)) (slice i (t .count) (t .entries)) ⌝ }
-{
-    let n = t.count;
-    let mut j = i;
-    while j < n {
-        let e = t.entries[j];
-        if number == e.number {
-            return true;
-        } else {
-            j += 1;
-        }
-    }
-    false
 }
 
 fn loans_distinct(lent: [Loan; 128], count: usize) -> bool
@@ -466,31 +400,19 @@ fn loans_distinct(lent: [Loan; 128], count: usize) -> bool
 {
     let mut i: usize = 0;
     while i < count {
-        let e = lent[i];
-        if loan_again(lent, count, e, i + 1) {
-            return false;
-        } else {
-            i += 1;
+        let x = lent[i];
+        let mut j = i + 1;
+        while j < count {
+            let y = lent[j];
+            if same_loan(x, y) {
+                return false;
+            } else {
+                j += 1;
+            }
         }
+        i += 1;
     }
     true
-}
-
-fn loan_again(lent: [Loan; 128], count: usize, x: Loan, i: usize) -> bool
-    requires { ⌜ count ≤ 128 ⌝ }
-    requires { ⌜ i ≤ count ⌝ }
-    ensures { λ r. ⌜ r ≡ any (sameLoan x) (slice i count lent) ⌝ }
-{
-    let mut j = i;
-    while j < count {
-        let e = lent[j];
-        if same_loan(x, e) {
-            return true;
-        } else {
-            j += 1;
-        }
-    }
-    false
 }
 
 fn same_loan(x: Loan, y: Loan) -> bool
@@ -508,29 +430,17 @@ fn bytes_distinct(s: &[u8], n: usize) -> bool
     let mut i: usize = 0;
     while i < n {
         let x = s[i];
-        if byte_again(s, i + 1, n, x) {
-            return false;
-        } else {
-            i += 1;
+        let mut j = i + 1;
+        while j < n {
+            if x == s[j] {
+                return false;
+            } else {
+                j += 1;
+            }
         }
+        i += 1;
     }
     true
-}
-
-fn byte_again(s: &[u8], i: usize, n: usize, x: u8) -> bool
-    requires { ⌜ n ≤ length (now s) ⌝ }
-    requires { ⌜ i ≤ n ⌝ }
-    ensures { λ r. ⌜ r ≡ any (eqb x) (slice i n (now (s .entry))) ⌝ }
-{
-    let mut j = i;
-    while j < n {
-        if x == s[j] {
-            return true;
-        } else {
-            j += 1;
-        }
-    }
-    false
 }
 
 fn bytes_are_groups(s: &[u8], n: usize) -> bool
