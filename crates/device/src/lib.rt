@@ -24,12 +24,13 @@ ghost use lib.ListN.{length, take};
 ghost use lib.Dec.{eqb, ltb};
 ghost use Rattle.manifest.specs.Good.{goodDefines, goodComponents, goodResources, usesRise};
 ghost use Rattle.manifest.specs.Good.{isProvider, good};
-ghost use Rattle.rules.specs.Lists.{any, all, distinct};
+ghost use Rattle.rules.specs.Lists.{any, all, distinct, test};
+ghost use Rattle.rules.specs.Action.{isOperations};
 ghost use Rattle.rules.specs.Limits.{large};
 ghost use Rattle.rules.specs.Refusals.{isGroup};
-ghost use Rattle.state.specs.Tables.{appNumber, isResource};
+ghost use Rattle.state.specs.Tables.{appNumber, partAt, isResource};
 ghost use Rattle.state.specs.Valid.{sameApp, samePart, sameResource, samePermission, sameInstance, sameLoan};
-ghost use Rattle.state.specs.Valid.{isInstalled, valid};
+ghost use Rattle.state.specs.Valid.{isInstalled, isSharingProvider, valid};
 ghost use Rattle.state.specs.Stored.{isZero, isZeroDefinition, isZeroComponent, isZeroPart, isZeroResource};
 ghost use Rattle.state.specs.Stored.{isZeroInstance};
 ghost use Rattle.state.specs.Stored.{isZeroLoan, isZeroApp, appPads, pads, padded, zeroPart, maskOf, formed, rowOf};
@@ -758,34 +759,46 @@ fn instance_good(e: Instance, parts: Parts) -> bool
 
 // ---- loans
 
+/// The inner loop looks for a loan's resource.
 fn loans_good(lent: [Loan; 128], count: usize, d: Device) -> bool
     requires { ⌜ count ≤ 128 ⌝ }
+    requires { ⌜ d .resources .count ≤ 128 ⌝ }
     ensures { λ r. ⌜ r ≡ all (goodLoan (rowsIn (d .apps)) (partsIn (d .parts)) (resourcesIn (d .resources))
         (instancesIn (d .instances))) (take count lent) ⌝ }
 {
+    let t = d.resources;
+    let n = t.count;
     let mut i: usize = 0;
-    while i < count {
-        let e = lent[i];
-        if loan_good(e, d) {
-            i += 1;
-        } else {
-            return false;
+    'next: while i < count {
+        let x = lent[i];
+        let mut j: usize = 0;
+        while j < n {
+            let e = t.entries[j];
+            if is_resource(e, x.provider, x.uri) {
+                if loan_good(x, d.apps, d.parts, d.instances) {
+                    i += 1;
+                    continue 'next;
+                } else {
+                    return false;
+                }
+            } else {
+                j += 1;
+            }
         }
+        return false;
     }
     true
 }
 
-fn loan_good(x: Loan, d: Device) -> bool
-    ensures { λ r. ⌜ r ≡ goodLoan (rowsIn (d .apps)) (partsIn (d .parts)) (resourcesIn (d .resources))
-        (instancesIn (d .instances)) x ⌝ }
+/// All tests of a loan but that its resource is there and that it is the only one.
+fn loan_good(x: Loan, apps: Apps, parts: Parts, instances: Instances) -> bool
+    ensures { λ r. ⌜ r ≡ isOperations (x .operations) && (liveIn (rowsIn apps) (instancesIn instances) x
+        && test (partAt (partsIn parts) (x .provider)) isSharingProvider) ⌝ }
 {
-    let live = live(x, d.apps, d.instances);
-    let k = part_at(d.parts, x.provider);
+    let live = live(x, apps, instances);
+    let k = part_at(parts, x.provider);
     let c = k.component;
-    ((1 <= x.operations) & (x.operations <= 3))
-        & (live
-            & (tables::has_resource(d.resources, x.provider, x.uri)
-                & ((c.kind == 4) & (c.shares == 1))))
+    ((1 <= x.operations) & (x.operations <= 3)) & (live & ((c.kind == 4) & (c.shares == 1)))
 }
 
 /// The receiver is looked for in the table of its kind only.
@@ -1083,6 +1096,7 @@ fn runs_good(instances: Instances, parts: Parts) -> bool
 
 fn lending_good(d: Device, lent: [Loan; 128]) -> bool
     requires { ⌜ d .lent ≤ 128 ⌝ }
+    requires { ⌜ d .resources .count ≤ 128 ⌝ }
     ensures { λ r. ⌜ r ≡ goodLending (rowsIn (d .apps)) (partsIn (d .parts)) (resourcesIn (d .resources))
         (instancesIn (d .instances)) (take (d .lent) lent) ⌝ }
 {

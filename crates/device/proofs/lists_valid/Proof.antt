@@ -125,5 +125,5 @@ lists-valid-spec =
     returns-4
     (λ c κs. few (search) .instances)
     returns-5
-    (λ c κs. few (search) .loans)
+    (λ c κs. (few (search) .loans, few (search) .resources))
     returns-6)

@@ -13,11 +13,10 @@ returns c =
     let start : tie.Start = search in
     let found : tie.After-part-at = search in
     rw (
-      part-test-or isSharingProvider refl (partsIn (start .args .d .parts)) (start .args .x .provider),
+      part-test-or isSharingProvider refl (partsIn (start .args .parts)) (start .args .x .provider),
       found .before .live .ensures,
       found .part-at .ensures,
-      c .before .before .has-resource .ensures,
     )
 
 pub loan-good-spec : {M : Type 1} → statement M
-loan-good-spec = tie.close (tie.spec (λ c κs. search needs) (λ c κs. search needs) (λ c κs. search needs) returns)
+loan-good-spec = tie.close (tie.spec (λ c κs. search needs) (λ c κs. search needs) returns)
