@@ -580,13 +580,6 @@ fn provided(parts: Parts, e: Resource) -> bool
     (0 < e.uri) & (c.kind == 4)
 }
 
-/// Widened, so that sums fit.
-fn wide(x: u16) -> u32
-    ensures { λ r. ⌜ r ≡ x ⌝ }
-{
-    x as u32
-}
-
 fn owners_of(t: Resources, parts: Parts) -> [u16; 128]
     requires { ⌜ t .count ≤ 128 ⌝ }
     ensures { λ r. ⌜ r ≡ padded 0 128 (ownersIn (partsIn parts) (resourcesIn t)) ⌝ }
