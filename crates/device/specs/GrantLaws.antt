@@ -39,7 +39,7 @@ number-at n i h =
 
 -- ---- the grants
 -- what is listed is at most 63
-listed-low : (p : ℕ) (uses : List ℕ) → all goodUse uses ≡ true → mem p uses ≡ true → p ≤ 63
+pub listed-low : (p : ℕ) (uses : List ℕ) → all goodUse uses ≡ true → mem p uses ≡ true → p ≤ 63
 unfolding mem
 listed-low p uses a e =
     let w = all-any goodUse (eqb p) uses a e in

@@ -1,12 +1,10 @@
 -- What the proofs of the covered functions cite, under one name.
-pub use Prim.Native.Nat.{ℕ, _+_, _-_, _≤_, _<_}
+pub use Prim.Native.Nat.{_-_}
 pub use mathlib.Core.Path.{_≡_, refl, sym, ap, _∙_}
-pub use mathlib.Core.Bool.{Bool, true, false, not, _&&_, _||_, cond}
-pub use mathlib.Core.List.{List, [], _∷_, _++_, map}
+pub use mathlib.Core.Bool.{Bool, true, false, not, _&&_, _||_}
 pub use native.Mathlib.Omega.{arith}
 pub use borrow.Author.Needs.{needs}
-pub use borrow.Author.Tests.{eq-eqb, ne-eqb, lt-ltb, le-ltb, not-true, not-false}
-pub use lib.ListN.{length, take, drop, getD, set}
+pub use borrow.Author.Tests.{eq-eqb, ne-eqb, not-true, not-false}
 pub use Rattle.rules.specs.Lists.{any, keep}
 pub use Rattle.tables.specs.Scan.{Bound, bound, Some, some-begin, some-next, some-hits, some-ends}
 pub use Rattle.tables.specs.ChangingLaws.{Cleared, cleared-begin, cleared-next, cleared-ends, cleared-count}

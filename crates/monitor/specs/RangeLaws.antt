@@ -34,18 +34,11 @@ use Rattle.state.specs.Valid.{manifestFrom, goodGrant, valid}
 use Rattle.state.specs.Ok.{Ok, valid→ok}
 use Rattle.tables.specs.declared.Change.{Change}
 use Rattle.tables.specs.declared.Change.the-variants.{AddGrant, TakeGrant, AddGroup, TakeGroup}
+use Rattle.device.specs.GrantLaws.{listed-low}
 use Rattle.monitor.specs.Stepped.{answerTo}
 use Rattle.monitor.specs.Made.{asking}
 
--- ---- what an app lists is at most 63
-listed-low : (p : ℕ) (uses : List ℕ) → all goodUse uses ≡ true → mem p uses ≡ true → p ≤ 63
-unfolding mem
-listed-low p uses a e =
-    let w = all-any goodUse (eqb p) uses a e in
-    let low = leb-true (w .0) 63 (w .1) in
-    let same = eqb-true p (w .0) (w .2) in
-    omega arith
-
+-- ---- what can be granted is at most 63
 grantable-low : (s : State) (a : App) (p : ℕ) → all goodUse (a .uses) ≡ true
     → test (known (viewOf s) p) (λ k. grantable a p k) ≡ true → p ≤ 63
 grantable-low s a p u e = go (known (viewOf s) p) e
