@@ -176,7 +176,8 @@ situations =
           asks 7 0 110 0 0 0 ∷ asks 9 0 130 1 7 0 ∷ asks 9 0 130 2 7 0 ∷ asks 11 1 130 1 7 2 ∷
           asks 4 0 14 4 0 0 ∷ asks 9 0 130 1 7 0 ∷ asks 9 0 130 2 7 0 ∷ [];
       lines =
-          done ∷ done ∷ done ∷ done ∷ gives 1 ∷ gives 2 ∷ rests 2 42 ∷ no 11 ∷ done ∷ done ∷ no 11 ∷ rests 3 42 ∷ [];
+          done ∷ done ∷ done ∷ done ∷ gives 1 ∷ gives 2 ∷ rests 2 42 ∷ no 11 ∷ done ∷ done ∷ no 11
+          ∷ rests 3 42 ∷ [];
     } ∷
     -- P5: withdraw write from a loan of both; read done, write 11
     record {

@@ -36,15 +36,18 @@ unlisted code n h (x ∷ l) e =
 -- a code that is none of 1 to 14
 abbrev pub Other : ℕ → Type 0
 Other n =
-    (((((((((((((Unit {0} × (n ≡ 1 → ⊥)) × (n ≡ 2 → ⊥)) × (n ≡ 3 → ⊥)) × (n ≡ 4 → ⊥)) × (n ≡ 5 → ⊥)) × (n ≡ 6 → ⊥))
-    × (n ≡ 7 → ⊥)) × (n ≡ 8 → ⊥)) × (n ≡ 9 → ⊥)) × (n ≡ 10 → ⊥)) × (n ≡ 11 → ⊥)) × (n ≡ 12 → ⊥)) × (n ≡ 13 → ⊥))
+    (((((((((((((Unit {0} × (n ≡ 1 → ⊥)) × (n ≡ 2 → ⊥)) × (n ≡ 3 → ⊥)) × (n ≡ 4 → ⊥))
+    × (n ≡ 5 → ⊥)) × (n ≡ 6 → ⊥)) × (n ≡ 7 → ⊥)) × (n ≡ 8 → ⊥)) × (n ≡ 9 → ⊥)) × (n ≡ 10 → ⊥))
+    × (n ≡ 11 → ⊥)) × (n ≡ 12 → ⊥)) × (n ≡ 13 → ⊥))
     × (n ≡ 14 → ⊥)
 
-past-five : (k n : ℕ) → (n ≡ k + 1 → ⊥) → (n ≡ k + 2 → ⊥) → (n ≡ k + 3 → ⊥) → (n ≡ k + 4 → ⊥) → (n ≡ k + 5 → ⊥)
+past-five : (k n : ℕ) → (n ≡ k + 1 → ⊥) → (n ≡ k + 2 → ⊥) → (n ≡ k + 3 → ⊥)
+    → (n ≡ k + 4 → ⊥) → (n ≡ k + 5 → ⊥)
     → k + 1 ≤ n → k + 6 ≤ n
 past-five k n a b c d e low = omega arith
 
-none-of-four : (n : ℕ) → (n ≡ 11 → ⊥) → (n ≡ 12 → ⊥) → (n ≡ 13 → ⊥) → (n ≡ 14 → ⊥) → 11 ≤ n → n ≤ 14 → ⊥
+none-of-four : (n : ℕ) → (n ≡ 11 → ⊥) → (n ≡ 12 → ⊥) → (n ≡ 13 → ⊥) → (n ≡ 14 → ⊥) → 11 ≤ n
+    → n ≤ 14 → ⊥
 none-of-four n a b c d low high = omega arith
 
 pub outside : (n : ℕ) → Other n → 1 ≤ n → n ≤ 14 → ⊥

@@ -334,7 +334,8 @@ find-map f g (x ∷ l) = go (f (g x)) (find-map f g l)
 
 -- all, and witnesses
 module _ {A : Type 0} where
-  pub all-mono : (f g : A → Bool) → ((x : A) → f x ≡ true → g x ≡ true) → (l : List A) → all f l ≡ true → all g l ≡ true
+  pub all-mono : (f g : A → Bool) → ((x : A) → f x ≡ true → g x ≡ true) → (l : List A) → all f l ≡ true
+      → all g l ≡ true
   unfolding all
   all-mono f g h [] e = refl
   all-mono f g h (x ∷ l) e = both (h x (and-left _ _ e)) (all-mono f g h l (and-right (f x) _ e))
@@ -380,7 +381,8 @@ module _ {A : Type 0} where
       go true e h = absurd (true≢false e)
       go false e h = h e
 
-  pub any-mono : (f g : A → Bool) → ((x : A) → f x ≡ true → g x ≡ true) → (l : List A) → any f l ≡ true → any g l ≡ true
+  pub any-mono : (f g : A → Bool) → ((x : A) → f x ≡ true → g x ≡ true) → (l : List A) → any f l ≡ true
+      → any g l ≡ true
   any-mono f g h [] e = e
   any-mono f g h (x ∷ l) e = go (f x) refl e (any-mono f g h l)
     where

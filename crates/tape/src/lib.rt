@@ -18,7 +18,6 @@ use state::Parts;
 use state::Resources;
 ghost use mathlib.Core.Path.{_≡_};
 ghost use Prim.Native.Nat.{_+_, _*_, _≤_, _<_};
-ghost use lib.Count.{ones};
 ghost use lib.ListN.{length, replicate};
 ghost use Rattle.manifest.specs.Layout.{u16At};
 ghost use Rattle.state.specs.Tables.{fresh};
@@ -236,8 +235,8 @@ fn put_run(tape: &[u8], p: usize, n: usize, out: &mut [u8], from: usize) -> usiz
 {
     let lines = put_lines(tape, p, n, fresh_device(), zero_loans(), out, from);
     let d = lines.device;
-    let running = d.instances.running;
-    put_counts(out, lines.end, d.apps.count, running_count(running), d.lent)
+    let running = wide32(tables::running_count(d.instances));
+    put_counts(out, lines.end, d.apps.count, running, d.lent)
 }
 
 // The lines of the first n actions of a tape at a device and its loan table.
@@ -274,13 +273,6 @@ fn put_lines(
         lent,
         end: at,
     }
-}
-
-// The ones of the running numbers.
-fn running_count(running: u64) -> usize
-    ensures { λ r. ⌜ r ≡ ones running ⌝ }
-{
-    wide32(u64::count_ones(running))
 }
 
 fn wide32(x: u32) -> usize
