@@ -1,5 +1,5 @@
 -- What the verdict on a manifest's bytes tells: they are no good manifest, or its sections stand where it says.
-use Rattle.std.specs.Prelude.{ℕ, ◌+◌, ◌*◌, ◌≤◌, min, ◌≡◌, refl, Bool, true, false, ◌||◌, cond, List, length, take, eqb}
+use Rattle.std.specs.Prelude.{ℕ, ◌+◌, ◌*◌, ◌≤◌, min, ◌≡◌, refl, Bool, true, false, not, ◌||◌, cond, List, length, take, eqb, leb, ltb}
 use Rattle.std.proofs.Common.{sym, ap, ◌∙◌, length-take, arith, eqb-true, le-leb}
 use Rattle.manifest.specs.declared.Sections.{Sections}
 use Rattle.manifest.specs.declared.Verdict.TheVariants.{Good, Malformed}
@@ -8,22 +8,23 @@ use Rattle.manifest.specs.Layout.{components_place, resources_place, end_place}
 use Rattle.manifest.specs.LayoutLaws.{length-entries}
 use Rattle.manifest.specs.Good.{good, good_bytes}
 use Rattle.manifest.specs.GoodLaws.{and_parts}
+use Rattle.manifest.specs.ImageLaws.{good-manifest_of}
 use Rattle.manifest.specs.Verdict.{verdict_of, sections_of, entry_at}
 use Rattle.rules.specs.Lists.{any, is_some}
+use Rattle.rules.specs.Limits.{large}
 use Rattle.rules.specs.View.{View}
 use Rattle.rules.specs.Permissions.{known}
-use Rattle.rules.specs.Refusals.{clash}
+use Rattle.rules.specs.Refusals.{clash, crowded}
 
-pub malformed : (s : List ℕ) → verdict_of s ≡ Malformed → good_bytes s ≡ false
-malformed s e = go (good_bytes s) e
+pub malformed : (s : List ℕ) → verdict_of s ≡ Malformed → not (good (manifest_of s)) ≡ true
+malformed s e = rw (good-manifest_of s) (go (good_bytes s) e)
   where
-    go : (t : Bool) → cond t (Good (sections_of s)) Malformed ≡ Malformed → t ≡ false
+    go : (t : Bool) → cond t (Good (sections_of s)) Malformed ≡ Malformed → not t ≡ true
     go true h = absurd (let z : ◌≡◌ {A = ℕ} 0 1 = cc in omega arith)
     go false h = refl
 
 pub record Read (s : List ℕ) (m : Sections) : Type 0 where
-  pub fine : good_bytes s ≡ true
-  pub good : good (laid_out s) ≡ true
+  pub fine : not (good (manifest_of s)) ≡ false
   pub sections : m ≡ sections_of s
   pub whole : manifest_of s ≡ laid_out s
   pub ends : end_place s ≡ length s
@@ -35,13 +36,12 @@ whole-if s l = rw l
 pub read-good : (s : List ℕ) (m : Sections) → verdict_of s ≡ Good m → Read s m
 read-good s m e =
     let g = go (good_bytes s) e in
-    let parts = and_parts (eqb (end_place s) (length s)) (good (laid_out s)) g.0 in
+    let l : eqb (end_place s) (length s) ≡ true = (and_parts (eqb (end_place s) (length s)) (good (laid_out s)) g.0).0 in
     record {
-      fine = g.0;
-      good = parts.1;
+      fine = ap not (good-manifest_of s ∙ g.0);
       sections = sym g.1;
-      whole = whole-if s parts.0;
-      ends = eqb-true (end_place s) (length s) parts.0;
+      whole = whole-if s l;
+      ends = eqb-true (end_place s) (length s) l;
     }
   where
     go : (t : Bool) → cond t (Good (sections_of s)) Malformed ≡ Good m → (t ≡ true) × (sections_of s ≡ m)
@@ -71,15 +71,17 @@ module _ {s : List ℕ} {m : Sections} (r : Read s m) where
   unfolding clash
   clash-is v = rw r.sections
 
-  pub components-many : m.components.count ≡ length (laid_out s).components
-  components-many =
-      ap (λ x. x.components.count) r.sections
-      ∙ sym (length-entries (component_at s) 8 (components_place s + 1) (u8_at s (components_place s)))
-
-  pub resources-many : m.resources.count ≡ length (laid_out s).resources
-  resources-many =
-      ap (λ x. x.resources.count) r.sections
-      ∙ sym (length-entries (resource_at s) 8 (resources_place s + 1) (u8_at s (resources_place s)))
+  pub crowded-is : (v : View)
+      → crowded large v (laid_out s)
+      ≡ leb 16 v.apps
+      || (ltb 64 (v.components + m.components.count) || ltb 128 (v.resources + m.resources.count))
+  unfolding crowded
+  crowded-is v =
+      rw (
+        r.sections,
+        length-entries (component_at s) 8 (components_place s + 1) (u8_at s (components_place s)),
+        length-entries (resource_at s) 8 (resources_place s + 1) (u8_at s (resources_place s)),
+      )
 
 -- an entry that is all there
 pub entry-there : {A : Type 0} (zeros : A) (f : List ℕ → ℕ → A) (size : ℕ) (s : List ℕ) (a : ℕ) → a + size ≤ length s

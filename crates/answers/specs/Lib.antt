@@ -1,6 +1,8 @@
 pub mod Answering
 pub mod AnsweringLaws
+pub mod GroundsLaws
+pub mod Starting
+pub mod StartingLaws
+pub mod Installing
 pub mod InstallingLaws
-pub mod UnaskedLaws
-pub mod AnswerLaws
 pub mod Unique

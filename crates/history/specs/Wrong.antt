@@ -23,7 +23,7 @@ pub record Meets (m : Steps) : Type 0 where
   pub lent : (d : Device) (lent : List Loan) (action manifest : List ℕ)
       → m.lent d lent action manifest ≡ step_lent d lent action manifest
 
--- of `answersheet::sheet_of`: the sheet of any bytes is that of the definitions
+-- of `tape::sheet_of`: the sheet of any bytes is that of the definitions
 abbrev pub MeetsSheet : (List ℕ → List ℕ) → Type 0
 MeetsSheet sheets = (s : List ℕ) → sheets s ≡ sheet s
 

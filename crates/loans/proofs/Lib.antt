@@ -2,4 +2,3 @@ pub mod Sizes
 pub mod Kit
 pub mod Walk
 pub mod Row
-pub mod Numbers

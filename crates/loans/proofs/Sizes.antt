@@ -1,12 +1,18 @@
--- What owning the components' numbers of a plan tells: how many there are.
-use mathlib.Core.Path.{◌≡◌}
-use Prim.Native.Nat.{ℕ}
+-- What owning a loan table, or its array, tells: how long the array is.
+use mathlib.Core.Path.{◌≡◌, sym, ◌∙◌}
 use mathlib.Core.List.{List}
-use lib.ListN.{length}
+use lib.ListN.{length, length-map}
 use denote.Laws.{Is}
 use denote.Array.{Array}
-use denote.Builtin.{u16}
+use denote.Struct.Declared.{row}
 use mir.Val.{Val}
+use Rattle.rules.specs.contracts.Loan as loan-type
+use Rattle.loans.specs.contracts.Loans as loans-type
+use Rattle.rules.specs.declared.Loan.{Loan}
+use Rattle.loans.specs.declared.Loans.{Loans}
 
-pub owned_long : {vs : List Val} (t : List ℕ) → Is (Array u16 16) t vs → length t ≡ 16
-owned_long t g = g.1.0.1
+pub loans-long : {vs : List Val} (t : Loans) → Is (row loans-type.the_type) t vs → length t.entries ≡ 128
+loans-long t g = sym (length-map t.entries _) ∙ g.1.1.0.1.0.1
+
+pub table-long : {vs : List Val} (t : List Loan) → Is (Array (row loan-type.the_type) 128) t vs → length t ≡ 128
+table-long t g = g.1.0.1

@@ -1,5 +1,9 @@
-pub mod Reading
-pub mod ReadingLaws
-pub mod Changing
-pub mod ChangingLaws
+pub mod Asked
+pub mod AskedLaws
+pub mod Held
+pub mod HeldLaws
+pub mod CompactLaws
+pub mod Lent
+pub mod LentLaws
+pub mod ChangeLaws
 pub mod Unique

@@ -1,4 +1,4 @@
 pub mod Sizes
+pub mod Kit
 pub mod Walk
 pub mod Again
-pub mod Local

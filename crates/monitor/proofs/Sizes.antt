@@ -1,4 +1,4 @@
--- What owning a device tells of its arrays: each has its length, and an app's number has two bytes.
+-- What owning a device tells of its arrays: each has its length.
 use mathlib.Core.Path.{◌≡◌, refl, sym, ◌∙◌}
 use mathlib.Core.Bool.{Bool, true}
 use mathlib.Core.List.{List, [], ◌∷◌, map}
@@ -18,6 +18,9 @@ use Rattle.state.specs.contracts.App as app-type
 use Rattle.state.specs.declared.Device.{Device}
 use Rattle.state.specs.declared.App.{App}
 use Rattle.state.specs.FormedLaws.{is_sized, Sized}
+use Rattle.state.specs.Stored.{valid_stored}
+use Rattle.rules.specs.declared.Loan.{Loan}
+use Rattle.monitor.specs.StepLaws.{Kept, stored-kept}
 
 app-size : (a : App) (vs : List Val) → Is (row app-type.the_type) a vs → is_sized a ≡ true
 unfolding is_sized
@@ -45,6 +48,11 @@ sizes d g =
       resources = sym (length-map d.resources.entries _) ∙ g.1.1.1.1.1.0.1.1.0.1.0.1;
       instances = sym (length-map d.instances.entries _) ∙ g.1.1.1.1.1.1.0.1.1.0.1.0.1;
     }
+
+-- a valid device that is owned
+pub kept_by : {d : Device} {lent : List Loan} {vs : List Val} → Is (row device-type.the_type) d vs
+    → valid_stored d lent ≡ true → Kept d lent
+kept_by {d} {lent} g v = stored-kept d lent (sizes d g) v
 
 number-narrow : (a : App) (vs : List Val) → Is (row app-type.the_type) a vs → leb a.number 65535 ≡ true
 number-narrow a vs g = let h = g.1.1.0 in le-leb a.number 65535 (omega arith)

@@ -1,3 +1,13 @@
 pub mod Stepped
-pub mod Stepping
+pub mod Made
+pub mod Installing
+pub mod TableLaws
+pub mod GrantLaws
+pub mod MadeLaws
+pub mod InstallLaws
+pub mod RangeLaws
+pub mod UnaskedLaws
 pub mod StepLaws
+pub mod Lending
+pub mod LendingLaws
+pub mod Unique

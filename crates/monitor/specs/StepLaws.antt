@@ -1,63 +1,57 @@
--- The parts of a step, one after the other, make the step of the definitions.
-use Rattle.std.specs.Prelude.{ℕ, ◌≤◌, ◌≡◌, refl, Bool, ◌&&◌, List, map, eqb, leb, length, take}
-use Rattle.std.proofs.Math.Path.{sym, ap}
-use Rattle.std.proofs.Common.{◌∙◌, append-nil, arith, length-take, take_all}
-use Rattle.std.proofs.Math.Bool.{true, false, cond}
-use borrow.Author.Tests.{eqb-true}
-use Rattle.manifest.specs.declared.Sections.{Sections}
-use Rattle.manifest.specs.ImageLaws.{good-manifest_of}
+-- A step from what the code has: a refusal and a question leave all as it was, and a done action leaves the tables of
+-- the next state.
+use Rattle.std.specs.Prelude.{ℕ, ◌≤◌, ◌≡◌, Bool, true, false, cond, eqb, leb, ltb}
+use Rattle.std.proofs.Math.Path.{refl, ap}
+use Rattle.std.proofs.Common.{sym, ◌∙◌, arith, eqb-true, le-leb, lt-ltb}
+use Rattle.std.proofs.lemmas.Bool.{false≢true}
+use mathlib.Core.List.{List, [], ◌∷◌, ◌++◌, map}
+use Rattle.std.proofs.Math.ListN.{length, length-append}
+use Rattle.manifest.specs.Layout.{manifest_of}
+use Rattle.manifest.specs.Good.{good}
+use Rattle.manifest.specs.Verdict.{sections_of}
 use Rattle.rules.specs.declared.Loan.{Loan}
 use Rattle.rules.specs.declared.Ground.{Ground}
 use Rattle.rules.specs.declared.Reason.{Reason}
 use Rattle.rules.specs.declared.Reason.TheVariants.{StateNotValid}
+use Rattle.rules.specs.Record.{action_of}
 use Rattle.rules.specs.declared.Answer.{Answer}
 use Rattle.rules.specs.declared.Answer.TheVariants.{Done, Refused}
-use Rattle.rules.specs.Lists.{all}
+use Rattle.rules.specs.Lists.{any, all}
 use Rattle.rules.specs.ListsLaws.{and_left, and_right}
 use Rattle.rules.specs.Limits.{large}
-use Rattle.rules.specs.Answer.{answer}
+use Rattle.rules.specs.Action.{Action, on_apps, install, uninstall, on_grants, on_runs, start, stop, write, on_loans}
+use Rattle.rules.specs.Action.{LoanAction, lend, Receiver, receiver_number}
+use Rattle.rules.specs.Action.{query, Query}
+use Rattle.rules.specs.DoneLaws.{install-good}
 use Rattle.state.specs.declared.Device.{Device}
-use Rattle.state.specs.Tables.{State, view_of}
-use Rattle.state.specs.Effects.{loans_after, next, after}
-use Rattle.state.specs.Stored.{padded, zero_loan, mask_of, model_of, device_of, lent_of, formed, valid_stored}
-use Rattle.tables.specs.Held.{instances_in}
-use Rattle.state.specs.Packed.{unpacked}
+use Rattle.state.specs.Tables.{view_of, is_loan}
+use Rattle.state.specs.Effects.{apps_after, definitions_after, parts_after, resources_after, instances_after, loans_after}
+use Rattle.state.specs.Effects.{next, after, loan_of, widened}
+use Rattle.state.specs.Stored.{mask_of, model_of, device_of, lent_of, formed, valid_stored}
 use Rattle.state.specs.Step.{inner_answer, inner_state, step_answer, step_device, step_lent}
+use Rattle.state.specs.Capacity.{Fits}
 use Rattle.state.specs.FormedLaws.{Sized, same-device, same-lent}
 use Rattle.state.specs.Valid.{valid}
 use Rattle.state.specs.Ok.{valid→ok}
-use Rattle.record.specs.declared.Asked.{Asked}
-use Rattle.record.specs.declared.Asked.TheVariants.{Install, Uninstall, Grants, Start, Stop, Read, Write, Lend}
-use Rattle.record.specs.declared.Asked.TheVariants.{Withdraw, Ask, Malformed}
-use Rattle.record.specs.Asked.{asked_of, action_from}
-use Rattle.record.specs.AskedLaws.{asked-action}
-use Rattle.loans.specs.declared.Records.{Records}
-use Rattle.loans.specs.declared.Wanted.{Wanted}
-use Rattle.loans.specs.declared.Found.{Found}
-use Rattle.loans.specs.declared.Plan.{Plan}
-use Rattle.loans.specs.Reading.{records_of, found_in}
-use Rattle.loans.specs.Changing.{changed_by, reached}
-use Rattle.answers.specs.declared.Decision.{Decision}
-use Rattle.answers.specs.Answering.{answer_by, sections_for, no_sections, wanted_by}
-use Rattle.answers.specs.AnswerLaws.{answer-found}
-use Rattle.effects.specs.Made.{with_lent}
-use Rattle.effects.specs.Next.{next_made}
-use Rattle.effects.specs.NextLaws.{HandedOn, next-made}
-use Rattle.effects.specs.Planning.{plan_for}
-use Rattle.effects.specs.PlanningLaws.{nothing-made, nothing-reached}
-use Rattle.effects.specs.PlannedLaws.{Planned, ReceiverFound, planned}
-use Rattle.effects.specs.RangeLaws.{apps-narrow}
-use Rattle.monitor.specs.declared.Decided.{Decided}
-use Rattle.monitor.specs.declared.Outcome.{Outcome}
-use Rattle.monitor.specs.Stepping.{is_valid, refusal, decision_on, decided_by, decided_on, outcome_on}
+use Rattle.tables.specs.declared.Change.{Change}
+use Rattle.tables.specs.Held.{instances_in}
+use Rattle.loans.specs.declared.Loans.{Loans}
+use Rattle.loans.specs.Held.{loans_table, appended, lend_in}
+use Rattle.monitor.specs.Stepped.{answer_to, stepped_to, stepped_by, stepped}
+use Rattle.monitor.specs.Made.{asking, with_lent, grant_made, write_made, start_made, stop_made, uninstall_made}
+use Rattle.monitor.specs.Installing.{install_made}
+use Rattle.monitor.specs.MadeLaws.{next_fits, grant-made, write-made, start-made, stop-made, loans-made}
+use Rattle.monitor.specs.MadeLaws.{uninstall-made}
+use Rattle.monitor.specs.InstallLaws.{install-made}
+use Rattle.monitor.specs.RangeLaws.{receiver-low, apps-narrow}
 
 -- ---- what a valid device is
-record Kept (d : Device) (lent : List Loan) : Type 0 where
+pub record Kept (d : Device) (lent : List Loan) : Type 0 where
   pub device : device_of (model_of d lent) ≡ d
   pub loans : lent_of 128 (model_of d lent) ≡ lent
   pub valid : valid large (model_of d lent) ≡ true
 
-stored-kept : (d : Device) (lent : List Loan) → Sized d → valid_stored d lent ≡ true → Kept d lent
+pub stored-kept : (d : Device) (lent : List Loan) → Sized d → valid_stored d lent ≡ true → Kept d lent
 unfolding valid_stored
 stored-kept d lent s v =
     let size = eqb-true (length lent) 128 (and_left (eqb (length lent) 128) _ v) in
@@ -69,185 +63,162 @@ stored-kept d lent s v =
       valid = and_right (formed d lent) _ rest;
     }
 
--- the running numbers are those of the list, and the loans are among the records
-running-kept : (d : Device) (lent : List Loan) → Kept d lent
+-- the running numbers are those of the list
+pub running-kept : (d : Device) (lent : List Loan) → Kept d lent
     → d.instances.running ≡ mask_of (instances_in d.instances)
 unfolding device_of model_of
 running-kept d lent k = sym (ap (λ (e : Device). e.instances.running) k.device)
 
-loans-kept : (d : Device) (lent : List Loan) → Kept d lent → d.lent ≤ length lent
-unfolding device_of model_of
-loans-kept d lent k =
-    let count : length (take d.lent lent) ≡ d.lent = ap (λ (e : Device). e.lent) k.device in
-    omega (arith, count, length-take d.lent lent)
+module _ (d : Device) (lent : List Loan) where
+  -- all as it was
+  stays : (x : Action) (a : Answer) → Kept d lent → answer_to (model_of d lent) x ≡ a
+      → after (model_of d lent) x a ≡ model_of d lent
+      → record { device = d; lent = lent; answer = a } ≡ stepped_by d lent x
+  unfolding stepped_by stepped_to
+  stays x a k e same = rw (e, same, k.device, k.loans)
 
--- ---- the records as numbers
-valid-is : (d : Device) (lent : List Loan) (rs : Records) → rs.length ≡ length lent
-    → map unpacked rs.numbers ≡ padded zero_loan 128 (take 128 lent) → is_valid d rs ≡ valid_stored d lent
-unfolding is_valid valid_stored
-valid-is d lent rs l e = go (eqb (length lent) 128) refl
-  where
-    go : (t : Bool) → eqb (length lent) 128 ≡ t
-        → eqb rs.length 128 && valid_stored d (map unpacked rs.numbers) ≡ valid_stored d lent
-    go true q =
-        let size = eqb-true (length lent) 128 q in
-        let whole = take_all 128 lent (omega arith) in
-        let same : map unpacked rs.numbers ≡ lent = e ∙ rw (whole, size) (append-nil lent) in
-        rw (l, same, q)
-    go false q = rw (l, q)
+  pub refused-stays : (x : Action) (a : Answer) (n : Reason) → Kept d lent → a ≡ answer_to (model_of d lent) x
+      → a ≡ Refused n
+      → record { device = d; lent = lent; answer = a } ≡ stepped_by d lent x
+  unfolding after
+  refused-stays x a n k e r = rw r (stays x (Refused n) k (sym e ∙ r) refl)
 
--- ---- what is handed on
-handed : (x : Asked) (z : List ℕ) → HandedOn x (sections_for x z) z
-unfolding sections_for
-handed (Install i p) z = λ e. rw (sym (good-manifest_of z) ∙ e)
-handed (Uninstall b) z = tt
-handed (Grants c b n) z = tt
-handed (Start c n) z = tt
-handed (Stop n) z = tt
-handed (Read a) z = tt
-handed (Write a x) z = tt
-handed (Lend o a r) z = tt
-handed (Withdraw o a) z = tt
-handed (Ask b p) z = tt
-handed Malformed z = tt
-
-receiver-found : (d : Device) (lent : List Loan) (x : Asked) (f : Found)
-    → f ≡ found_in (wanted_by d x) (take (wanted_by d x).count lent) → ReceiverFound (model_of d lent) x f
-unfolding wanted_by found_in model_of
-receiver-found d lent (Install i p) f e = tt
-receiver-found d lent (Uninstall b) f e = tt
-receiver-found d lent (Grants c b n) f e = tt
-receiver-found d lent (Start c n) f e = tt
-receiver-found d lent (Stop n) f e = tt
-receiver-found d lent (Read a) f e = tt
-receiver-found d lent (Write a x) f e = tt
-receiver-found d lent (Lend o a r) f e = ap (λ (g : Found). g.receiver) e
-receiver-found d lent (Withdraw o a) f e = tt
-receiver-found d lent (Ask b p) f e = tt
-receiver-found d lent Malformed f e = tt
-
--- ---- what the parts of a step leave
--- a device and a table
-pub record Left (o : Outcome) (l : List Loan) (d : Device) (lent : List Loan) (a : Answer) : Type 0 where
-  pub outcome : o ≡ record { device = d; answer = a }
-  pub loans : l ≡ lent
-
-module _ (d : Device) (lent : List Loan) (f : Found) (x : Asked) (z : List ℕ) where
-  abbrev LeftBy : Decision → Device → List Loan → Type 0
-  LeftBy e n l =
-      let c = decided_by d f x e in
-      Left (outcome_on d c (reached c.plan lent) z) (changed_by c.plan lent) n l e.answer
-
-  refused-leaves : (n : Reason) (m : Sections) → LeftBy (record { answer = Refused n; sections = m }) d lent
-  unfolding next_made plan_for
-  refused-leaves n m = record { outcome = rw (nothing-reached d.lent lent); loans = nothing-made d.lent lent }
-
-  done-leaves : (g : Ground) (v : ℕ) → Kept d lent → all (λ a. leb a.number 65535) d.apps.entries ≡ true
-      → f ≡ found_in (wanted_by d x) (take (wanted_by d x).count lent)
-      → answer large (view_of (model_of d lent)) (action_from x z) ≡ Done g v
-      → LeftBy (record { answer = Done g v; sections = sections_for x z })
-      (device_of (next (model_of d lent) (action_from x z) v)) (lent_of 128 (next (model_of d lent) (action_from x z) v))
-  unfolding next
-  done-leaves g v k narrow found e =
-      record {
-        outcome = ap (λ (n : Device). record { device = n; answer = Done g v }) device;
-        loans = by-device (λ n. changed_by (plan_for n x f) lent)
-            ∙ ap (changed_by (plan_for (device_of s) x f)) (sym k.loans) ∙ plan.made;
-      }
+  pub query-stays : (z : Query) (a : Answer) → Kept d lent → a ≡ answer_to (model_of d lent) (query z)
+      → record { device = d; lent = lent; answer = a } ≡ stepped_by d lent (query z)
+  unfolding after next apps_after definitions_after parts_after resources_after instances_after loans_after
+  query-stays z a k e = stays (query z) a k (sym e) (same a)
     where
-      s : State
-      s = model_of d lent
+      same : (a : Answer) → after (model_of d lent) (query z) a ≡ model_of d lent
+      same (Refused n) = refl
+      same (Done g v) = refl
 
-      left : List Loan
-      left = loans_after s.parts s.loans (action_from x z)
+  -- a receiver of a wider number than a table's is not there
+  pub lend-stays : (o p n u : ℕ) (q : Receiver) (a : Answer) → Kept d lent
+      → all (λ b. leb b.number 65535) d.apps.entries ≡ true
+      → a ≡ answer_to (model_of d lent) (on_loans (lend o p n u q)) → leb (receiver_number q) 65535 ≡ false
+      → record { device = d; lent = lent; answer = a } ≡ stepped_by d lent (on_loans (lend o p n u q))
+  lend-stays o p n u q a k narrow f wide = go a refl
+    where
+      go : (r : Answer) → a ≡ r
+          → record { device = d; lent = lent; answer = a } ≡ stepped_by d lent (on_loans (lend o p n u q))
+      go (Refused w) e = refused-stays (on_loans (lend o p n u q)) a w k f e
+      go (Done g v) e =
+          let low = receiver-low (model_of d lent) (valid→ok large (model_of d lent) k.valid)
+          (apps-narrow d lent narrow)
+          o p n u q g v (sym f ∙ e) in
+          absurd (false≢true (sym wide ∙ le-leb (receiver_number q) 65535 low))
 
-      plan : Planned s (plan_for (device_of s) x f) left
-      plan =
-          planned s (valid→ok large s k.valid) (apps-narrow d lent narrow) f z g v x
-          (receiver-found d lent x f found) e
+  -- the tables of the next state
+  done-steps : (x : Action) (a : Answer) (g : Ground) (v : ℕ) (e : Device) (l : List Loan)
+      → a ≡ answer_to (model_of d lent) x → a ≡ Done g v
+      → e ≡ device_of (next (model_of d lent) x v) → l ≡ lent_of 128 (next (model_of d lent) x v)
+      → record { device = e; lent = l; answer = a } ≡ stepped_by d lent x
+  unfolding stepped_by stepped_to after
+  done-steps x a g v e l f r p q = rw (sym f ∙ r, r, p, q)
 
-      by-device : {A : Type 0} (h : Device → A) → h d ≡ h (device_of s)
-      by-device h = ap h (sym k.device)
+-- ---- done actions, each with what the code makes of the tables
+module _ (d : Device) (lent : List Loan) (k : Kept d lent) (a : Answer) (g : Ground) (v : ℕ) (r : a ≡ Done g v) where
+  fitting : (x : Action) → a ≡ answer_to (model_of d lent) x → Fits large (next (model_of d lent) x v)
+  fitting x f = next_fits (model_of d lent) x g v k.valid (sym f ∙ r)
 
-      count : reached (plan_for d x f) lent ≡ length left
-      count =
-          by-device (λ n. reached (plan_for n x f) lent)
-          ∙ ap (reached (plan_for (device_of s) x f)) (sym k.loans) ∙ plan.reach
+  pub grant-steps : (c : Change) (b m : ℕ) → a ≡ answer_to (model_of d lent) (on_grants (asking c b m))
+      → (e : Device) → e ≡ grant_made d c b m
+      → record { device = e; lent = lent; answer = a } ≡ stepped_by d lent (on_grants (asking c b m))
+  unfolding next loans_after
+  grant-steps c b m f e made = done-steps d lent (on_grants (asking c b m)) a g v e lent f r
+      (made ∙ ap (λ (n : Device). grant_made n c b m) (sym k.device)
+      ∙ grant-made (model_of d lent) v c b m (fitting (on_grants (asking c b m)) f)) (sym k.loans)
 
-      device : with_lent (next_made d x v (sections_for x z) z) (reached (plan_for d x f) lent)
-          ≡ device_of (next s (action_from x z) v)
-      device =
-          ap (with_lent (next_made d x v (sections_for x z) z)) count
-          ∙ by-device (λ n. with_lent (next_made n x v (sections_for x z) z) (length left))
-          ∙ next-made s k.valid z (sections_for x z) g v x (handed x z) e
+  pub write-steps : (p n u x : ℕ) → a ≡ answer_to (model_of d lent) (write p n u x) → (e : Device) → e ≡ write_made d p u x
+      → record { device = e; lent = lent; answer = a } ≡ stepped_by d lent (write p n u x)
+  unfolding next loans_after
+  write-steps p n u x f e made = done-steps d lent (write p n u x) a g v e lent f r
+      (made ∙ ap (λ (n : Device). write_made n p u x) (sym k.device) ∙ write-made (model_of d lent) v p n u x)
+      (sym k.loans)
+
+  pub start-steps : (c n : ℕ) → a ≡ answer_to (model_of d lent) (on_runs (start c n)) → (e : Device) → e ≡ start_made d c v
+      → record { device = e; lent = lent; answer = a } ≡ stepped_by d lent (on_runs (start c n))
+  unfolding next loans_after
+  start-steps c n f e made = done-steps d lent (on_runs (start c n)) a g v e lent f r
+      (made ∙ ap (λ (n : Device). start_made n c v) (sym k.device)
+      ∙ start-made (model_of d lent) v c n (fitting (on_runs (start c n)) f)) (sym k.loans)
+
+  pub installs-good : (i : Bool) (z : List ℕ) → a ≡ answer_to (model_of d lent) (on_apps (install i (manifest_of z)))
+      → good (manifest_of z) ≡ true
+  installs-good i z f = install-good large (view_of (model_of d lent)) g v i (manifest_of z) (sym f ∙ r)
+
+  pub install-steps : (i : Bool) (z : List ℕ) → a ≡ answer_to (model_of d lent) (on_apps (install i (manifest_of z)))
+      → (e : Device) → e ≡ install_made z i (sections_of z) d
+      → record { device = e; lent = lent; answer = a } ≡ stepped_by d lent (on_apps (install i (manifest_of z)))
+  unfolding next loans_after
+  install-steps i z f e made =
+      let x = on_apps (install i (manifest_of z)) in
+      done-steps d lent x a g v e lent f r
+      (made ∙ ap (install_made z i (sections_of z)) (sym k.device)
+      ∙ install-made (model_of d lent) i z v (installs-good i z f) (fitting x f)) (sym k.loans)
+
+  -- the loans that are left, in their table
+  abbrev pub left : Action → Loans
+  left x = loans_table (loans_after (model_of d lent).parts (model_of d lent).loans x)
+
+  pub stop-steps : (n : ℕ) → a ≡ answer_to (model_of d lent) (on_runs (stop n)) → (t : Loans) → t ≡ left (on_runs (stop n))
+      → (e : Device) → e ≡ stop_made d t.count n
+      → record { device = e; lent = t.entries; answer = a } ≡ stepped_by d lent (on_runs (stop n))
+  unfolding next
+  stop-steps n f t o e made = done-steps d lent (on_runs (stop n)) a g v e t.entries f r
+      (made ∙ ap (λ (u : Loans). stop_made d u.count n) o
+      ∙ ap (λ (b : Device). stop_made b (left (on_runs (stop n))).count n) (sym k.device)
+      ∙ stop-made (model_of d lent) v n) (ap (λ (u : Loans). u.entries) o)
+
+  pub loans-steps : (z : LoanAction) → a ≡ answer_to (model_of d lent) (on_loans z) → (t : Loans) → t ≡ left (on_loans z)
+      → (e : Device) → e ≡ with_lent d t.count
+      → record { device = e; lent = t.entries; answer = a } ≡ stepped_by d lent (on_loans z)
+  unfolding next
+  loans-steps z f t o e made = done-steps d lent (on_loans z) a g v e t.entries f r
+      (made ∙ ap (λ (u : Loans). with_lent d u.count) o
+      ∙ ap (λ (b : Device). with_lent b (left (on_loans z)).count) (sym k.device) ∙ loans-made (model_of d lent) v z)
+      (ap (λ (u : Loans). u.entries) o)
+
+  pub uninstall-steps : (b : ℕ) → a ≡ answer_to (model_of d lent) (on_apps (uninstall b))
+      → (t : Loans) → t ≡ left (on_apps (uninstall b)) → (e : Device) → e ≡ uninstall_made d t.count b
+      → record { device = e; lent = t.entries; answer = a } ≡ stepped_by d lent (on_apps (uninstall b))
+  unfolding next
+  uninstall-steps b f t o e made = done-steps d lent (on_apps (uninstall b)) a g v e t.entries f r
+      (made ∙ ap (λ (u : Loans). uninstall_made d u.count b) o
+      ∙ ap (λ (n : Device). uninstall_made n (left (on_apps (uninstall b))).count b) (sym k.device)
+      ∙ uninstall-made (model_of d lent) v b) (ap (λ (u : Loans). u.entries) o)
+
+  -- a done lend has room for a new loan
+  pub lend-left : (o p n u : ℕ) (q : Receiver) → a ≡ answer_to (model_of d lent) (on_loans (lend o p n u q))
+      → loans_table (lend_in q p u o (model_of d lent).loans) ≡ left (on_loans (lend o p n u q))
+  unfolding lend_in appended loans_after
+  lend-left o p n u q f = go (any (is_loan q p u) ls) refl
+    where
+      ls : List Loan
+      ls = (model_of d lent).loans
+
+      one : Loan
+      one = loan_of q p u o
+
+      go : (t : Bool) → any (is_loan q p u) ls ≡ t
+          → loans_table (cond t (map (widened q p u o) ls) (cond (ltb (length ls) 128) (ls ++ (one ∷ [])) ls))
+          ≡ loans_table (cond t (map (widened q p u o) ls) (ls ++ (one ∷ [])))
+      go true e = refl
+      go false e =
+          let next-loans : (next (model_of d lent) (on_loans (lend o p n u q)) v).loans ≡ ls ++ (one ∷ []) =
+          unfold next loans_after in rw e in
+          let fits : length (ls ++ (one ∷ [])) ≤ 128 = rw next-loans at (fitting (on_loans (lend o p n u q)) f).loans in
+          let l = length-append ls (one ∷ []) in
+          rw (lt-ltb (length ls) 128 (omega arith))
 
 -- ---- the whole step
-module _ (d : Device) (lent : List Loan) (action z : List ℕ) (sized : Sized d)
-    (narrow : all (λ a. leb a.number 65535) d.apps.entries ≡ true) (rs : Records)
-    (counted : rs.length ≡ length lent)
-    (unpacks : map unpacked rs.numbers ≡ padded zero_loan 128 (take 128 lent))
-    (f : Found)
-    (found : f ≡ found_in (wanted_by d (asked_of action)) (take (wanted_by d (asked_of action)).count lent)) where
-  abbrev x : Asked
-  x = asked_of action
+module _ (d : Device) (lent : List Loan) (action manifest : List ℕ) where
+  pub stepped-valid : valid_stored d lent ≡ true
+      → stepped_by d lent (action_of action manifest) ≡ stepped d lent action manifest
+  unfolding stepped stepped_by stepped_to step_device step_lent step_answer inner_state inner_answer
+  stepped-valid e = rw e
 
-  answer-is : valid_stored d lent ≡ true → inner_answer d lent action z ≡ answer_by d x f z
-  unfolding inner_answer valid_stored
-  answer-is v =
-      let k = stored-kept d lent sized v in
-      let size = eqb-true (length lent) 128 (and_left (eqb (length lent) 128) _ v) in
-      let room = loans-kept d lent k in
-      ap (answer large (view_of (model_of d lent))) (sym (asked-action action z))
-      ∙ sym (answer-found d lent (running-kept d lent k) size (omega arith) x z f found)
-
-  state-is : (a : Answer) → valid_stored d lent ≡ true → answer_by d x f z ≡ a
-      → inner_state d lent action z ≡ after (model_of d lent) (action_from x z) a
-  unfolding inner_state
-  state-is a v e = rw (answer-is v ∙ e, asked-action action z)
-
-  inner : (a : Answer) → valid_stored d lent ≡ true → answer_by d x f z ≡ a
-      → LeftBy d lent f x z (record { answer = a; sections = sections_for x z })
-      (device_of (inner_state d lent action z)) (lent_of 128 (inner_state d lent action z))
-  unfolding after
-  inner (Refused n) v e =
-      let k = stored-kept d lent sized v in
-      rw (state-is (Refused n) v e, k.device, k.loans) (refused-leaves d lent f x z n (sections_for x z))
-  inner (Done g w) v e =
-      rw (state-is (Done g w) v e)
-      (done-leaves d lent f x z g w (stored-kept d lent sized v) narrow found
-      (ap (answer large (view_of (model_of d lent))) (asked-action action z) ∙ unfold inner_answer in (answer-is v ∙ e)))
-
-  step_is : let c = decided_on d rs f x z in
-      Left (outcome_on d c (reached c.plan lent) z) (changed_by c.plan lent)
-      (step_device d lent action z) (step_lent d lent action z) (step_answer d lent action z)
-  unfolding decision_on step_device step_lent step_answer
-  step_is = rw (valid-is d lent rs counted unpacks) (go (valid_stored d lent) refl)
-    where
-      go : (q : Bool) → valid_stored d lent ≡ q
-          → let e : Decision = cond q (record { answer = answer_by d x f z; sections = sections_for x z }) refusal in
-          let c = decided_by d f x e in
-          Left (outcome_on d c (reached c.plan lent) z) (changed_by c.plan lent)
-          (cond q (device_of (inner_state d lent action z)) d) (cond q (lent_of 128 (inner_state d lent action z)) lent)
-          (cond q (inner_answer d lent action z) (Refused StateNotValid))
-      go true v = rw (answer-is v) (inner (answer_by d x f z) v refl)
-      go false v = refused-leaves d lent f x z StateNotValid no_sections
-
--- each part in its turn: what they told makes the outcome and the table of the definitions
-module _ (d : Device) (lent : List Loan) (action z : List ℕ) {rs : Records} {w : Wanted} {f : Found} {c : Decided}
-    {p : Plan} {n : ℕ} {o : Outcome} {l : List Loan} where
-  pub parts-step : Sized d → all (λ a. leb a.number 65535) d.apps.entries ≡ true
-      → rs ≡ records_of lent → map unpacked rs.numbers ≡ padded zero_loan 128 (take 128 lent)
-      → w ≡ wanted_by d (asked_of action) → f ≡ found_in w (take w.count lent)
-      → c ≡ decided_on d rs f (asked_of action) z → p ≡ c.plan
-      → n ≡ reached p lent → l ≡ changed_by p lent → o ≡ outcome_on d c n z
-      → (o ≡ record { device = step_device d lent action z; answer = step_answer d lent action z })
-      × (l ≡ step_lent d lent action z)
-  unfolding records_of
-  parts-step sized narrow records unpacks wanted found decided plan count left outcome =
-      let told : f ≡ found_in (wanted_by d (asked_of action)) (take (wanted_by d (asked_of action)).count lent) =
-      found ∙ ap (λ (w : Wanted). found_in w (take w.count lent)) wanted in
-      let all = step_is d lent action z sized narrow rs (ap (λ (r : Records). r.length) records) unpacks f told in
-      let same : p ≡ (decided_on d rs f (asked_of action) z).plan = plan ∙ ap (λ (e : Decided). e.plan) decided in (
-        outcome ∙ rw (count, same, decided) all.outcome,
-        left ∙ rw same all.loans,
-      )
+  pub stepped-not : valid_stored d lent ≡ false
+      → record { device = d; lent = lent; answer = Refused StateNotValid } ≡ stepped d lent action manifest
+  unfolding stepped step_device step_lent step_answer
+  stepped-not e = rw e

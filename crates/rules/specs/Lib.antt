@@ -11,7 +11,6 @@ pub mod PermissionsLaws
 pub mod Grounds
 pub mod GroundsLaws
 pub mod Refusals
-pub mod Meaning
 pub mod Answer
 pub mod Order
 pub mod OrderLaws

@@ -47,43 +47,6 @@ pub struct Known {
     pub group: u8,
 }
 
-/// A definition in force, or none.
-#[derive(Drop)]
-pub enum Look {
-    Found(Known),
-    Undefined,
-}
-
-/// What is done with a resource.
-#[derive(Drop)]
-pub enum Operation {
-    Read,
-    Write,
-}
-
-/// To whom a loan goes, by a number as wide as an action record's.
-#[derive(Drop)]
-pub enum Receiver {
-    Instance(u32),
-    App(u32),
-}
-
-/// Which operations the loans to one receiver on one resource carry.
-#[derive(Drop)]
-pub struct Carried {
-    pub reads: bool,
-    pub writes: bool,
-}
-
-/// How a grant action changes one of an app's lists.
-#[derive(Drop)]
-pub enum Change {
-    AddGrant,
-    TakeGrant,
-    AddGroup,
-    TakeGroup,
-}
-
 /// What a done read or write rests on; `Nothing` for every other action.
 #[derive(Drop)]
 pub enum Ground {

@@ -4,8 +4,8 @@
 ghost use Rattle.std.specs.Prelude.{◌+◌, ◌*◌, ◌≤◌, ◌<◌, length};
 ghost use Rattle.io.specs.Counts.{IsPrefixLen};
 
-use answersheet::Wrote;
 use libc::{STDERR_FILENO, STDIN_FILENO, STDOUT_FILENO};
+use tape::Wrote;
 
 /// What was read: a tape of so many bytes at the front of the buffer, or the end of the stream.
 #[derive(Drop)]
@@ -57,7 +57,7 @@ fn put_sheet(tape: &[u8], out: &mut [u8], at: usize) -> usize
     requires { at ≤ length out.old }
     ensures { result ≤ length out.new }
 {
-    let wrote = answersheet::sheet_of(tape, &mut out[at..]);
+    let wrote = tape::sheet_of(tape, &mut out[at..]);
     match wrote {
         Wrote::Bytes(n) => {
             let end = at + n;

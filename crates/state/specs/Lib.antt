@@ -14,7 +14,6 @@ pub mod KeepsLimits
 pub mod KeepsLoans
 pub mod Keeps
 pub mod Stored
-pub mod Packed
 pub mod StoredLaws
 pub mod FormedLaws
 pub mod Step

@@ -1,18 +1,19 @@
 -- What the proofs of the functions cite, under one name.
 pub use Prim.Native.Nat.{ℕ, ◌-◌, ◌≤◌, ◌<◌}
 pub use mathlib.Core.Path.{◌≡◌, refl, sym, ap, ◌∙◌}
-pub use mathlib.Core.Bool.{true, false, not, ◌&&◌, cond}
+pub use mathlib.Core.Bool.{true, not, ◌&&◌, cond}
 pub use mathlib.Core.List.{List, [], ◌∷◌}
-pub use mathlib.Core.Option.{none}
+pub use mathlib.Core.Option.{Option, none}
 pub use native.Mathlib.Omega.{arith}
 pub use borrow.Author.Rules.{rules}
 pub use borrow.Author.Tests.{eq-eqb, ne_eqb, le-leb, lt-leb, not-true, not-false}
-pub use lib.ListN.{length, take, get_or}
+pub use lib.ListN.{take, get_or, set}
 pub use Rattle.tables.proofs.Sizes.{apps-long, definitions-long, parts-long, resources-long, instances-long}
 pub use Rattle.tables.proofs.Sizes.{grants-long, groups-long}
-pub use Rattle.tables.specs.Scan.{bound}
+pub use Rattle.tables.specs.Scan.{Bound, bound}
 pub use Rattle.tables.specs.Scan.{Some, some-begin, some_as, some_next, some-hits, some-ends}
 pub use Rattle.tables.specs.Scan.{Placed, placed-begin, placed-next, placed-hits, placed-ends}
 pub use lib.Dec.{eqb}
-pub use Rattle.tables.specs.ChangingLaws.{Kept, kept-begin, kept_more, kept_less, kept-ends, kept-length}
-pub use Rattle.tables.specs.ChangingLaws.{Mapped, mapped-begin, mapped_next, mapped-same, mapped-ends}
+pub use Rattle.tables.specs.ChangingLaws.{Squeezed, squeezed-begin, squeezed-keep, squeezed-skip, squeezed-ends}
+pub use Rattle.tables.specs.ChangingLaws.{Cleared, cleared-begin, cleared-next, cleared-ends, cleared-count}
+pub use Rattle.tables.specs.ChangingLaws.{Mapped, mapped-begin, mapped_next, mapped-ends}

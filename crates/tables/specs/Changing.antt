@@ -16,8 +16,8 @@ use Rattle.state.specs.declared.Instances.{Instances}
 use Rattle.state.specs.Stored.{padded, zero_instance}
 use Rattle.state.specs.Tables.{defined_by}
 use Rattle.state.specs.Effects.{put, taken}
-use Rattle.rules.specs.declared.Change.{Change}
-use Rattle.rules.specs.declared.Change.TheVariants.{AddGrant, TakeGrant, AddGroup, TakeGroup}
+use Rattle.tables.specs.declared.Change.{Change}
+use Rattle.tables.specs.declared.Change.TheVariants.{AddGrant, TakeGrant, AddGroup, TakeGroup}
 use Rattle.tables.specs.Finding.{is_app, is_instance}
 use Rattle.tables.specs.Held.{instances_in}
 use Rattle.tables.specs.Running.{digit_of, without}

@@ -6,8 +6,6 @@ pub mod Looking
 pub mod LookingLaws
 pub mod Running
 pub mod RunningLaws
-pub mod Marks
-pub mod MarksLaws
 pub mod Changing
 pub mod ChangingLaws
 pub mod HeldLaws

@@ -1,17 +1,16 @@
 -- A look against an option, an app of the code against a row of the rules, and which tables an answer depends on.
-use Rattle.std.specs.Prelude.{ℕ, ◌≡◌, refl, Bool, true, false, ◌&&◌, List, [], map}
-use Rattle.std.proofs.Common.{sym, ◌∙◌, arith}
+use Rattle.std.specs.Prelude.{ℕ, ◌≡◌, refl, false, ◌&&◌, List, [], map, eqb}
+use Rattle.std.proofs.Common.{◌∙◌, arith}
 use Rattle.std.proofs.Math.Option.{Option, none, some}
-use Rattle.std.proofs.Math.Dec.{eqb}
 use Rattle.rules.specs.declared.Known.{Known}
 use Rattle.rules.specs.Lists.{any, mem, find, map_option}
 use Rattle.rules.specs.ListsLaws.{any-map, find-map, map-map}
 use Rattle.state.specs.declared.App.{App}
 use Rattle.state.specs.Stored.{row_of}
 use Rattle.state.specs.Tables.{app_number, apps_of, app_at, granted_in, grouped_in}
-use Rattle.rules.specs.declared.Look.TheVariants.{Found, Undefined}
+use Rattle.tables.specs.declared.Look.TheVariants.{Found, Undefined}
 use Rattle.tables.specs.Finding.{is_app}
-use Rattle.rules.specs.Meaning.{look_of}
+use Rattle.tables.specs.Looking.{look_of}
 
 -- ---- a look
 pub look-found : (o : Option Known) (k : Known) → look_of o ≡ Found k → o ≡ some k
@@ -51,16 +50,12 @@ pub app-missing : (l : List App) (n : ℕ) → find (is_app n) l ≡ none → ap
 unfolding map_option
 app-missing l n e = same-search l n ∙ rw e
 
--- ---- a second test, of what passes the first
-pub passes-first : {t u r v : Bool} → t ≡ true → r ≡ u → r ≡ v → t && u ≡ v
-passes-first e q h = rw e (sym q ∙ h)
+pub granted-any : (l : List App) (b p : ℕ)
+    → granted_in (map row_of l) b p ≡ any (λ a. eqb (app_number (row_of a)) b && mem p (row_of a).grants) l
+unfolding granted_in
+granted-any l b p = any-map (λ r. eqb (app_number r) b && mem p r.grants) row_of l
 
--- ---- the lists of an app
-module _ (l : List App) (b n : ℕ) where
-  pub granted-any : granted_in (map row_of l) b n ≡ any (λ a. is_app b a && mem n (row_of a).grants) l
-  unfolding granted_in
-  granted-any = any-map (λ r. eqb (app_number r) b && mem n r.grants) row_of l
-
-  pub grouped-any : grouped_in (map row_of l) b n ≡ any (λ a. is_app b a && mem n (row_of a).groups) l
-  unfolding grouped_in
-  grouped-any = any-map (λ r. eqb (app_number r) b && mem n r.groups) row_of l
+pub grouped-any : (l : List App) (b g : ℕ)
+    → grouped_in (map row_of l) b g ≡ any (λ a. eqb (app_number (row_of a)) b && mem g (row_of a).groups) l
+unfolding grouped_in
+grouped-any l b g = any-map (λ r. eqb (app_number r) b && mem g r.groups) row_of l

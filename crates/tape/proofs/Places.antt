@@ -2,7 +2,7 @@
 use Prim.Native.Nat.{ℕ, zero, suc, ◌+◌, ◌*◌, ◌-◌, ◌≤◌, ◌<◌}
 use mathlib.Core.Path.{◌≡◌, refl, ap, ◌∙◌}
 use mathlib.Core.List.{List}
-use mathlib.Core.Bool.{false, ◌&&◌, and-false}
+use mathlib.Core.Bool.{true, false, ◌&&◌, and-false}
 use lib.Dec.{leb}
 use lib.ListN.{length}
 use native.Mathlib.Numerals.{add-one}
@@ -11,9 +11,9 @@ use borrow.Author.Tests.{lt-leb, le-leb, eq-eqb, ne_eqb}
 use Rattle.manifest.specs.Layout.{u16_at}
 use Rattle.history.specs.Tape.{manifest_count, manifest_place, manifest_length, action_count, record_place}
 use Rattle.history.specs.Tape.{lengths_fit, is_tape}
-use Rattle.history.specs.TapeLaws.{place-next, place-rises}
+use Rattle.history.specs.TapeLaws.{place-next, place-rises, place_inside, tape-whole}
 use Rattle.tape.specs.declared.Start.TheVariants.{At, NoTape}
-use Rattle.tape.specs.Reading.{start_of, Passed}
+use Rattle.tape.specs.Reading.{start_of, TapeAt, Passed}
 
 module _ (s : List ℕ) where
   lengths-next : (k : ℕ) → lengths_fit s (k + 1) ≡ lengths_fit s k && leb (manifest_length s k) 1024
@@ -118,3 +118,23 @@ module _ {s : List ℕ} {at : ℕ} (p : Passed s (manifest_count s) at) where
         eq-eqb (record_place s (action_count s)) (length s) b,
         p.place,
       )
+
+-- ---- in a tape
+module _ (s : List ℕ) where
+  pub place-there : {at n : ℕ} (k : ℕ) → at ≡ manifest_place s k → n ≡ u16_at s at → at + 2 + n ≡ manifest_place s (k + 1)
+  place-there {at} {n} k e f =
+      let g : n ≡ manifest_length s k = f ∙ ap (u16_at s) e in
+      omega (arith, e, g, place-next s k)
+
+  pub place-ends : {at : ℕ} → is_tape s ≡ true → (k : ℕ) → k < manifest_count s → at ≡ manifest_place s k
+      → at + 2 + u16_at s at ≤ length s
+  place-ends {at} t k h e = omega (arith, place_inside s t (k + 1) (omega arith), place-there k e refl)
+
+-- a tape at p: its count, and where its records end
+pub tape-count : {s : List ℕ} {p n : ℕ} → TapeAt s p → n ≡ u16_at s p → n ≡ action_count s
+tape-count {s} t e = e ∙ ap (u16_at s) t.here
+
+pub tape-ends : {s : List ℕ} {p : ℕ} → TapeAt s p → p + 2 + 12 * action_count s ≡ length s
+tape-ends {s} t =
+    let e = t.here in
+    omega (arith, tape-whole s t.good)

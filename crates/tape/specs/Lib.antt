@@ -1,3 +1,6 @@
+pub mod Written
 pub mod Reading
-pub mod ReadingLaws
+pub mod Filled
+pub mod FilledLaws
+pub mod Ran
 pub mod Unique

@@ -1,10 +1,12 @@
--- Where the reader finds the parts of a tape: the action records, and the manifest of a place. Document 01, "The tape
--- and the answer sheet".
-use Rattle.std.specs.Prelude.{ℕ, ◌+◌, ◌-◌, ◌≤◌, ◌≡◌, Bool, true, ◌&&◌, cond, List, length, take, drop, ltb}
-use Rattle.history.specs.Tape.{is_tape, lengths_fit, manifest_count, manifest_place, manifest_length, actions_place}
+-- Where the reader finds the action records of a tape, and what the monitor makes of one of them.
+use Rattle.std.specs.Prelude.{ℕ, ◌≤◌, ◌≡◌, true, cond, List, length}
+use Rattle.rules.specs.declared.Loan.{Loan}
+use Rattle.state.specs.declared.Device.{Device}
+use Rattle.monitor.specs.declared.Stepped.{Stepped}
+use Rattle.history.specs.Tape.{is_tape, lengths_fit, manifest_place, actions_place}
+use Rattle.history.specs.Run.{monitor_steps, Held, answer_to, held_after}
 use Rattle.tape.specs.declared.Start.{Start}
 use Rattle.tape.specs.declared.Start.TheVariants.{At, NoTape}
-use Rattle.tape.specs.declared.Span.{Span}
 
 abbrev pub start_of : List ℕ → Start
 start_of s = cond (is_tape s) (At (actions_place s)) NoTape
@@ -20,16 +22,14 @@ pub record Passed (s : List ℕ) (i at : ℕ) : Type 0 where
   pub inside : at ≤ length s
   pub short : lengths_fit s i ≡ true
 
--- ---- the bytes of a manifest, after its length
-abbrev pub has_place : List ℕ → ℕ → Bool
-has_place s place = is_tape s && ltb place (manifest_count s)
+-- record i at a device and the table lent to it
+abbrev pub held_by : Device → List Loan → Held
+held_by d lent = record { device = d; lent = lent }
 
-abbrev pub span_of : List ℕ → ℕ → Span
-span_of s place =
+abbrev pub stepped : List ℕ → Device → List Loan → ℕ → Stepped
+stepped s d lent i =
     record {
-      first = cond (has_place s place) (manifest_place s place + 2) 0;
-      last = cond (has_place s place) (manifest_place s place + 2 + manifest_length s place) 0;
+      device = (held_after monitor_steps s (held_by d lent) i).device;
+      lent = (held_after monitor_steps s (held_by d lent) i).lent;
+      answer = answer_to monitor_steps s (held_by d lent) i;
     }
-
-abbrev pub bytes_in : Span → List ℕ → List ℕ
-bytes_in r s = take (r.last - r.first) (drop r.first s)

@@ -9,4 +9,4 @@ unfolding is_to
 returns c = cc
 
 pub is-to-spec : {M : Type 1} → statement M
-is-to-spec = tie.close (tie.spec (λ c κs. search needs) (λ c κs. search needs) (λ c κs. search needs) returns)
+is-to-spec = tie.close (tie.spec (λ c κs. search needs) (λ c κs. search needs) returns)

@@ -2,7 +2,7 @@
 use Rattle.loans.proofs.Kit.{needs, ◌∙◌, ◌&&◌, with-by}
 use Rattle.rules.specs.Action.{carries}
 use Rattle.state.specs.Effects.{kept}
-use Rattle.loans.specs.Changing.{by_op}
+use Rattle.loans.specs.Held.{by_op}
 use Rattle.loans.proofs.keep_operations.Statement.{statement}
 use Rattle.loans.proofs.keep_operations.Tie as tie
 

@@ -1,18 +1,20 @@
 -- `widened` meets its contract: what is carried after is an answer for each operation.
 use Rattle.loans.proofs.Kit.{needs, ◌∙◌, ◌&&◌, ◌||◌, with-by}
 use Rattle.rules.specs.Action.{carries}
-use Rattle.state.specs.Valid.{same_loan}
-use Rattle.loans.specs.Changing.{widened_by}
+use Rattle.state.specs.Tables.{is_loan}
+use Rattle.state.specs.Effects.{widened}
+use Rattle.loans.specs.Held.{receiver_of}
 use Rattle.loans.proofs.widened.Statement.{statement}
 use Rattle.loans.proofs.widened.Tie as tie
 
 returns : tie.Need-returns
-unfolding widened_by
+unfolding widened
 returns c =
     let a = c.before.before.before.before.before.before.args in
     c.with-operations.ensures
     ∙ with-by a.loan
-    (λ op. carries op a.loan.operations || (same_loan a.loan a.more && carries op a.more.operations))
+    (λ op. carries op a.loan.operations ||
+    (is_loan (receiver_of a.receiver) a.provider a.uri a.loan && carries op a.operations))
     (cc) (cc)
 
 pub widened-spec : {M : Type 1} → statement M

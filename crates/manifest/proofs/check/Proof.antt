@@ -114,10 +114,10 @@ module _ {M : Type 1} {𝓤 : Ura M} (𝓛 : Logic 𝓤) (mem : Memory → SProp
   to_step r u k = (((κ, tt), (q, tt), tt, (r, (k, tt)), (u ∷ [], (vint w64 k ∷ [], tt))), tt)
 
   goes_step : (r : Reader) (u : Val) (k : ℕ) → k < 2 ^ 64 → ent 𝓤
-      (⋆ 𝓛 (‵ ((B (κ, tt)).own r (u ∷ [])) ∷ (‵ (flft κ q) ⊛ ‵ ftrue) ∷ []))
+      (⋆ 𝓛 (‵ ((B (κ, tt)).own_val r (u ∷ [])) ∷ (‵ (flft κ q) ⊛ ‵ ftrue) ∷ []))
       ((Step 𝓛 mem run).pre (to_step r u k))
   goes_step r u k small =
-      qed 𝓛 (‵ ((B (κ, tt)).own r (u ∷ [])) ∷ (‵ (flft κ q) ⊛ ‵ ftrue) ∷ []) ∵ nothing ! $ owned ! usize (Is usize)
+      qed 𝓛 (‵ ((B (κ, tt)).own_val r (u ∷ [])) ∷ (‵ (flft κ q) ⊛ ‵ ftrue) ∷ []) ∵ nothing ! $ owned ! usize (Is usize)
       (uint_Makes 𝓛 w64) k _ (refl, small) $ fjoin ! $
       move ! (1 ∷ 0 ∷ []) $ fjoin ! $ move ! (1 ∷ 0 ∷ []) $ join ! $ frame ! $ done !
 
@@ -134,10 +134,10 @@ module _ {M : Type 1} {𝓤 : Ura M} (𝓛 : Logic 𝓤) (mem : Memory → SProp
   abbrev to_last : Reader → Val → (Last 𝓛 mem run).Ghost
   to_last r u = (((κ, tt), (q, tt), tt, (r, tt), (u ∷ [], tt)), tt)
 
-  goes_last : (r : Reader) (u : Val) → ent 𝓤 (⋆ 𝓛 (‵ ((B (κ, tt)).own r (u ∷ [])) ∷ (‵ (flft κ q) ⊛ ‵ ftrue) ∷ []))
+  goes_last : (r : Reader) (u : Val) → ent 𝓤 (⋆ 𝓛 (‵ ((B (κ, tt)).own_val r (u ∷ [])) ∷ (‵ (flft κ q) ⊛ ‵ ftrue) ∷ []))
       ((Last 𝓛 mem run).pre (to_last r u))
   goes_last r u =
-      qed 𝓛 (‵ ((B (κ, tt)).own r (u ∷ [])) ∷ (‵ (flft κ q) ⊛ ‵ ftrue) ∷ []) ∵ nothing ! $ move ! (1 ∷ 0 ∷ []) $ fjoin !
+      qed 𝓛 (‵ ((B (κ, tt)).own_val r (u ∷ [])) ∷ (‵ (flft κ q) ⊛ ‵ ftrue) ∷ []) ∵ nothing ! $ move ! (1 ∷ 0 ∷ []) $ fjoin !
       $ move ! (1 ∷ 0 ∷ []) $ join ! $ frame ! $ done !
 
   abbrev Told : Reader → Verdict → Type 0
@@ -169,7 +169,7 @@ module _ {M : Type 1} {𝓤 : Ura M} (𝓛 : Logic 𝓤) (mem : Memory → SProp
         move ! (14 ∷ []) $ use1 𝓛 (raw ((New 𝓛 mem run).pre to-new) ⊛ ‵ Own) goes-new $ split ! $
         calls_at ! fm (New 𝓛 mem run) known.new to-new
         (and_then ! (load ! (from ! (stop !)) (look ! 12 refl)) (no_more !)) (λ u₀.
-        use1 𝓛 (later (some (λ (r : Reader). ((‵ (flft κ q) ⊛ ‵ ftrue) ⊛ ‵ ((B (κ, tt)).own r (u₀ ∷ []))) ⊛ raw
+        use1 𝓛 (later (some (λ (r : Reader). ((‵ (flft κ q) ⊛ ‵ ftrue) ⊛ ‵ ((B (κ, tt)).own_val r (u₀ ∷ []))) ⊛ raw
         (ensured 𝓛 new.ended (new.clauses 𝓛 mem run) (κ, tt) (s, tt) tt r)))) (id⊢ 𝓤 _) $ await ! tt $ pick
         ! (λ r₀.
         split ! $ move ! (1 ∷ []) $ use1 𝓛 (raw (fact 𝓤 (Reached s 0 r₀))) (new-said r₀) $ heard ! (Reached s 0 r₀)
@@ -183,7 +183,7 @@ module _ {M : Type 1} {𝓤 : Ura M} (𝓛 : Logic 𝓤) (mem : Memory → SProp
         use2 𝓛 (raw ((Step 𝓛 mem run).pre (to_step r₀ u₀ 0))) (goes_step r₀ u₀ 0 (lit< tt)) $
         calls_at ! fm (Step 𝓛 mem run) known.step (to_step r₀ u₀ 0)
         (and_then ! (load ! (from ! (stop !)) (look ! 2 refl)) (and_then ! (lit ! tt) (no_more !))) (λ u₁.
-        use1 𝓛 (later (some (λ (t : Reader). ((‵ (flft κ q) ⊛ ‵ ftrue) ⊛ ‵ ((B (κ, tt)).own t (u₁ ∷ []))) ⊛ raw
+        use1 𝓛 (later (some (λ (t : Reader). ((‵ (flft κ q) ⊛ ‵ ftrue) ⊛ ‵ ((B (κ, tt)).own_val t (u₁ ∷ []))) ⊛ raw
         (ensured 𝓛 step.ended (step.clauses 𝓛 mem run) (κ, tt) (r₀, (0, tt)) tt t)))) (id⊢ 𝓤 _) $ await ! tt
         $ pick ! (λ r₁.
         split ! $ move ! (1 ∷ []) $ use1 𝓛 (raw (fact 𝓤 (Stepped r₀ 0 r₁))) (step-said r₀ 0 r₁) $ heard !
@@ -195,7 +195,7 @@ module _ {M : Type 1} {𝓤 : Ura M} (𝓛 : Logic 𝓤) (mem : Memory → SProp
         use2 𝓛 (raw ((Step 𝓛 mem run).pre (to_step r₁ u₁ 1))) (goes_step r₁ u₁ 1 (lit< tt)) $
         calls_at ! fm (Step 𝓛 mem run) known.step (to_step r₁ u₁ 1)
         (and_then ! (load ! (from ! (stop !)) (look ! 4 refl)) (and_then ! (lit ! tt) (no_more !))) (λ u₂.
-        use1 𝓛 (later (some (λ (t : Reader). ((‵ (flft κ q) ⊛ ‵ ftrue) ⊛ ‵ ((B (κ, tt)).own t (u₂ ∷ []))) ⊛ raw
+        use1 𝓛 (later (some (λ (t : Reader). ((‵ (flft κ q) ⊛ ‵ ftrue) ⊛ ‵ ((B (κ, tt)).own_val t (u₂ ∷ []))) ⊛ raw
         (ensured 𝓛 step.ended (step.clauses 𝓛 mem run) (κ, tt) (r₁, (1, tt)) tt t)))) (id⊢ 𝓤 _) $ await ! tt
         $ pick ! (λ r₂.
         split ! $ move ! (1 ∷ []) $ use1 𝓛 (raw (fact 𝓤 (Stepped r₁ 1 r₂))) (step-said r₁ 1 r₂) $ heard !
@@ -207,7 +207,7 @@ module _ {M : Type 1} {𝓤 : Ura M} (𝓛 : Logic 𝓤) (mem : Memory → SProp
         use2 𝓛 (raw ((Step 𝓛 mem run).pre (to_step r₂ u₂ 2))) (goes_step r₂ u₂ 2 (lit< tt)) $
         calls_at ! fm (Step 𝓛 mem run) known.step (to_step r₂ u₂ 2)
         (and_then ! (load ! (from ! (stop !)) (look ! 6 refl)) (and_then ! (lit ! tt) (no_more !))) (λ u₃.
-        use1 𝓛 (later (some (λ (t : Reader). ((‵ (flft κ q) ⊛ ‵ ftrue) ⊛ ‵ ((B (κ, tt)).own t (u₃ ∷ []))) ⊛ raw
+        use1 𝓛 (later (some (λ (t : Reader). ((‵ (flft κ q) ⊛ ‵ ftrue) ⊛ ‵ ((B (κ, tt)).own_val t (u₃ ∷ []))) ⊛ raw
         (ensured 𝓛 step.ended (step.clauses 𝓛 mem run) (κ, tt) (r₂, (2, tt)) tt t)))) (id⊢ 𝓤 _) $ await ! tt
         $ pick ! (λ r₃.
         split ! $ move ! (1 ∷ []) $ use1 𝓛 (raw (fact 𝓤 (Stepped r₂ 2 r₃))) (step-said r₂ 2 r₃) $ heard !
@@ -219,7 +219,7 @@ module _ {M : Type 1} {𝓤 : Ura M} (𝓛 : Logic 𝓤) (mem : Memory → SProp
         use2 𝓛 (raw ((Step 𝓛 mem run).pre (to_step r₃ u₃ 3))) (goes_step r₃ u₃ 3 (lit< tt)) $
         calls_at ! fm (Step 𝓛 mem run) known.step (to_step r₃ u₃ 3)
         (and_then ! (load ! (from ! (stop !)) (look ! 8 refl)) (and_then ! (lit ! tt) (no_more !))) (λ u₄.
-        use1 𝓛 (later (some (λ (t : Reader). ((‵ (flft κ q) ⊛ ‵ ftrue) ⊛ ‵ ((B (κ, tt)).own t (u₄ ∷ []))) ⊛ raw
+        use1 𝓛 (later (some (λ (t : Reader). ((‵ (flft κ q) ⊛ ‵ ftrue) ⊛ ‵ ((B (κ, tt)).own_val t (u₄ ∷ []))) ⊛ raw
         (ensured 𝓛 step.ended (step.clauses 𝓛 mem run) (κ, tt) (r₃, (3, tt)) tt t)))) (id⊢ 𝓤 _) $ await ! tt
         $ pick ! (λ r₄.
         split ! $ move ! (1 ∷ []) $ use1 𝓛 (raw (fact 𝓤 (Stepped r₃ 3 r₄))) (step-said r₃ 3 r₄) $ heard !

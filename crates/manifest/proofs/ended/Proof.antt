@@ -7,7 +7,7 @@ use Rattle.manifest.proofs.Walk.{Stays, Tables, Triple, Ura, Val, Vals, Values, 
 use Rattle.manifest.proofs.Walk.{[], ◌$◌, ◌<◌, ◌^◌, ◌∵◌, ◌∷◌, ◌≡◌, ◌⊛◌, all_own, alloc0, alloc1, and_then}
 use Rattle.manifest.proofs.Walk.{assigns, await, by, calls_at, cited, done, drop, emp, ends_at, ensured, ent}
 use Rattle.manifest.proofs.Walk.{enter, entered, ex_e, fact, fjoin, fld, flft, fm_of, forget, frame, free0}
-use Rattle.manifest.proofs.Walk.{free1, from, fsplit, fst∗, ftrue, given, Goes-none, has_ty, heard}
+use Rattle.manifest.proofs.Walk.{free1, from, fsplit, fst∗, ftrue, given, goes_none, has_ty, heard}
 use Rattle.manifest.proofs.Walk.{id⊢, init, join, land, lasts, later, learn, length, load, look, look_in}
 use Rattle.manifest.proofs.Walk.{move, named, named_lft, no_more, nothing, now, of_opd, on_entry, own_open}
 use Rattle.manifest.proofs.Walk.{own_out, field_own, owned, owns, params1, pass0, pass1, peeks, pick, qed, raw}
@@ -65,7 +65,7 @@ module _ {M : Type 1} {𝓤 : Ura M} (𝓛 : Logic 𝓤) (mem : Memory → SProp
       (((κ, tt), (q, tt), tt, (d, tt), (mach ∷ [], tt)), tt)
 
   abbrev Own : Fml
-  Own = (B (κ, tt)).own d (mach ∷ [])
+  Own = (B (κ, tt)).own_val d (mach ∷ [])
 
   -- the struct's type and laws, and d's fields' values
   abbrev D : Declared
@@ -168,7 +168,7 @@ next-meets : {M : Type 1} {𝓤 : Ura M} (𝓛 : Logic 𝓤) (mem : Memory → S
     → Triple 𝓤 (𝓣.C #manifest·ended-at) (Callee 𝓛 mem run)
     → Meets 𝓛 next.signature (WpFn 𝓤 𝓛.H 𝓣.C 𝓣.Λ code.function) (next.spec 𝓛 mem run)
 next-meets {𝓤 = 𝓤} 𝓛 mem run 𝓣 Known-step =
-    walk_Meets 𝓛 next.ended stayed (Goes-none 𝓛 1 B yes (λ κs x f. refl), tt) (next.clauses 𝓛 mem run)
+    walk_Meets 𝓛 next.ended stayed (goes_none 𝓛 1 B yes (λ κs x f. refl), tt) (next.clauses 𝓛 mem run)
     (WpFn 𝓤 𝓛.H 𝓣.C 𝓣.Λ code.function) (WpFn-mono 𝓤 𝓛.H 𝓛.laws 𝓣 code.function)
     (next-walks 𝓛 mem run 𝓣.C 𝓣.Λ (fm_of 𝓤 𝓛.H 𝓛.laws 𝓣) Known-step)
 

@@ -9,7 +9,7 @@ use Rattle.manifest.proofs.Walk.{[], ◌$◌, ◌<◌, ◌^◌, ◌∵◌, ◌�
 use Rattle.manifest.proofs.Walk.{and_then, ap, assigns, await, by, calls_at, cited, done, drop, emp, ends_at}
 use Rattle.manifest.proofs.Walk.{ensured, ent, enter, entered, ex_e, fact, fat, fjoin, fld, flft, fm_of, forget}
 use Rattle.manifest.proofs.Walk.{frame, free0, free1, from, fsplit, fst∗, ftrue, full_share, given}
-use Rattle.manifest.proofs.Walk.{Goes-none, has_ty, heard, id⊢, init, join, land, lasts, later, learn, length}
+use Rattle.manifest.proofs.Walk.{goes_none, has_ty, heard, id⊢, init, join, land, lasts, later, learn, length}
 use Rattle.manifest.proofs.Walk.{load, look, look_in, move, named, named_lft, no_more, nothing, now, of_opd}
 use Rattle.manifest.proofs.Walk.{on_entry, only, own_open, own_out, own_put, field_own, owned, owns, params1}
 use Rattle.manifest.proofs.Walk.{pass0, pass1, peeks, pick, qed, raw, refl, rest, returns, rewrite, says, sem}
@@ -70,7 +70,7 @@ module _ {M : Type 1} {𝓤 : Ura M} (𝓛 : Logic 𝓤) (mem : Memory → SProp
       (((κ, tt), (q, tt), tt, (d, (n, tt)), at), tt)
 
   abbrev Own : Fml
-  Own = (B (κ, tt)).own d (mach ∷ [])
+  Own = (B (κ, tt)).own_val d (mach ∷ [])
 
   -- the struct's type and laws, and d's fields' values
   abbrev D : Declared
@@ -198,7 +198,7 @@ next-meets : {M : Type 1} {𝓤 : Ura M} (𝓛 : Logic 𝓤) (mem : Memory → S
     → Meets 𝓛 next.signature (WpFn 𝓤 𝓛.H 𝓣.C 𝓣.Λ code.function) (next.spec 𝓛 mem run)
 next-meets {𝓤 = 𝓤} 𝓛 mem run 𝓣 Known-step =
     walk_Meets 𝓛 next.ended stayed
-    (Goes-none 𝓛 1 B yes (λ κs x f. refl), (Goes-none 𝓛 1 (λ _. usize) yes (λ κs x f. refl), tt))
+    (goes_none 𝓛 1 B yes (λ κs x f. refl), (goes_none 𝓛 1 (λ _. usize) yes (λ κs x f. refl), tt))
     (next.clauses 𝓛 mem run) (WpFn 𝓤 𝓛.H 𝓣.C 𝓣.Λ code.function) (WpFn-mono 𝓤 𝓛.H 𝓛.laws 𝓣 code.function)
     (next-walks 𝓛 mem run 𝓣.C 𝓣.Λ (fm_of 𝓤 𝓛.H 𝓛.laws 𝓣) Known-step)
 

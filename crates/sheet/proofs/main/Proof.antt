@@ -1,6 +1,6 @@
 -- `main` is safe: the bytes that it writes are within the buffer that holds the sheet.
 use borrow.Author.Rules.{rules}
-use Rattle.answersheet.specs.FilledLaws.{bytes_inside}
+use Rattle.tape.specs.FilledLaws.{bytes_inside}
 use Rattle.sheet.proofs.main.Statement.{statement}
 use Rattle.sheet.proofs.main.Tie as tie
 

@@ -3,7 +3,7 @@ use Prim.Native.Nat.{◌-◌}
 use native.Mathlib.Omega.{arith}
 use borrow.Author.Rules.{rules}
 use lib.ListN.{length, length-set}
-use Rattle.answersheet.specs.FilledLaws.{bytes_inside}
+use Rattle.tape.specs.FilledLaws.{bytes_inside}
 use Rattle.sheets.proofs.Sizes.{put-inside}
 use Rattle.sheets.proofs.put_sheet.Statement.{statement}
 use Rattle.sheets.proofs.put_sheet.Tie as tie

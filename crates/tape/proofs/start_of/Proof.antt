@@ -8,10 +8,10 @@ use Rattle.tape.proofs.start_of.Statement.{statement}
 use Rattle.tape.proofs.start_of.Tie as tie
 
 abbrev invariant-loop : tie.invariant-loop
-invariant-loop tape count at₀ i₀ at i = (i ≤ count) × Passed tape i at
+invariant-loop s count at₀ i₀ at i = (i ≤ count) × Passed s i at
 
 abbrev decreases-loop : tie.decreases-loop
-decreases-loop tape count at₀ i₀ at i = count - i
+decreases-loop s count at₀ i₀ at i = count - i
 
 returns : tie.Need-returns invariant-loop decreases-loop
 returns c = empty _ (omega arith)

@@ -1,0 +1,14 @@
+-- `on_malformed` meets its contract: what is malformed is refused, and leaves all as it was.
+use Rattle.monitor.proofs.Kit.{refl, kept_by, query-stays}
+use Rattle.rules.specs.Action.{malformed}
+use Rattle.rules.specs.Answer.{answer, decide}
+use Rattle.rules.specs.Refusals.{refusals}
+use Rattle.monitor.proofs.on_malformed.Statement.{statement}
+use Rattle.monitor.proofs.on_malformed.Tie as tie
+
+returns : tie.Need-returns
+unfolding answer decide refusals
+returns c = query-stays _ _ malformed _ (kept_by c.well-formed.0 c.requires) refl
+
+pub on-malformed-spec : {M : Type 1} → statement M
+on-malformed-spec = tie.close (tie.spec returns)

@@ -1,0 +1,55 @@
+-- `change_app` meets its contract: at each turn one entry more of the list is changed.
+use Rattle.tables.proofs.Kit.{ℕ, ◌-◌, ◌≡◌, refl, List, arith, needs, Bound, bound, apps-long}
+use Rattle.tables.proofs.Kit.{Mapped, mapped-begin, mapped_next, mapped-ends}
+use mathlib.Core.Path.{ap₂}
+use Rattle.state.specs.declared.App.{App}
+use Rattle.state.specs.declared.Apps.{Apps}
+use Rattle.tables.specs.Changing.{changed_at, change_app}
+use Rattle.tables.proofs.change_app.Statement.{statement}
+use Rattle.tables.proofs.change_app.Tie as tie
+
+abbrev invariant-loop : tie.invariant-loop
+invariant-loop number change member n t₀ i₀ t i =
+    (t.count ≡ t₀.count) × Mapped (changed_at number change member) t₀.entries n i t.entries
+
+abbrev decreases-loop : tie.decreases-loop
+decreases-loop number change member n t₀ i₀ t i = n - i
+
+abbrev table : List App → ℕ → Apps
+table l k = record { entries = l; count = k }
+
+start : (c : tie.After-within invariant-loop decreases-loop) → Bound c.before.args.apps.entries c.before.args.apps.count
+    c.within.result
+start c = bound _ (apps-long c.before.args.apps c.before.well-formed.0) c.within.ensures
+
+loop-holds : tie.Need-loop-init invariant-loop decreases-loop
+loop-holds c = (refl, mapped-begin (start c))
+
+loop-again : tie.Need-loop-preserved invariant-loop decreases-loop
+loop-again c =
+    let l = c.before.before.before.loop in
+    (l.invariant.0, mapped_next l.invariant.1 c.before.before.loop-test.true _ c.changed-at.ensures)
+
+returns : tie.Need-returns invariant-loop decreases-loop
+unfolding change_app
+returns c =
+    let l = c.before.loop in
+    ap₂ table (mapped-ends l.invariant.1 (start c.before.before) c.loop-test.false) l.invariant.0
+
+pub change-app-spec : {M : Type 1} → statement M
+change-app-spec =
+    tie.close
+    (tie.spec
+    invariant-loop
+    decreases-loop
+    (λ c κs. search needs)
+    loop-holds
+    (λ c. omega arith)
+    (λ c. omega arith)
+    (λ c κs. search needs)
+    (λ c. omega arith)
+    (λ c. omega arith)
+    (λ c. omega arith)
+    (λ c. omega arith)
+    loop-again
+    returns)

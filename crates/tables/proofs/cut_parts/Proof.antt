@@ -1,0 +1,45 @@
+-- `cut_parts` meets its contract: the places from the end of the list on are made zero, one at each turn.
+use Rattle.tables.proofs.Kit.{◌-◌, arith, needs, Bound, bound, parts-long}
+use Rattle.tables.proofs.Kit.{Cleared, cleared-begin, cleared-next, cleared-ends, cleared-count}
+use Rattle.state.specs.Stored.{zero_part}
+use Rattle.tables.proofs.cut_parts.Statement.{statement}
+use Rattle.tables.proofs.cut_parts.Tie as tie
+
+abbrev invariant-loop : tie.invariant-loop
+invariant-loop count n z t₀ j₀ t j = Cleared z t₀.entries 64 n j t.entries
+
+abbrev decreases-loop : tie.decreases-loop
+decreases-loop count n z t₀ j₀ t j = 64 - j
+
+loop-holds : tie.Need-loop-init invariant-loop decreases-loop
+loop-holds c = let s = c.before.before in cleared-begin (parts-long s.args.parts s.well-formed.0) (omega arith)
+
+loop-again : tie.Need-loop-preserved invariant-loop decreases-loop
+loop-again c = cleared-next c.before.loop.invariant c.loop-test.true
+
+returns : tie.Need-returns invariant-loop decreases-loop
+returns c =
+    let s = c.before.before.before.before in
+    let l = c.before.loop in
+    let f : Cleared zero_part s.args.parts.entries 64 c.before.before.before.within.result l.j
+    l.t.entries =
+    rw (← c.before.before.zero-part.ensures) l.invariant in
+    let b : Bound s.args.parts.entries s.args.count c.before.before.before.within.result =
+    bound s.args.count (parts-long s.args.parts s.well-formed.0) c.before.before.before.within.ensures in
+    cc (cleared-ends f c.loop-test.false, cleared-count f, b.same)
+
+pub cut-parts-spec : {M : Type 1} → statement M
+cut-parts-spec =
+    tie.close
+    (tie.spec
+    invariant-loop
+    decreases-loop
+    (λ c κs. search needs)
+    (λ c κs. search needs)
+    loop-holds
+    (λ c. omega arith)
+    (λ c. omega arith)
+    (λ c. omega arith)
+    (λ c. omega arith)
+    loop-again
+    returns)

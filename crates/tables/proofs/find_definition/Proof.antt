@@ -1,0 +1,47 @@
+-- `find_definition` meets its contract: at each turn the whole answer is the answer for the definitions that are left.
+use Rattle.tables.proofs.Kit.{◌-◌, arith, needs, eq-eqb, ne_eqb, definitions-long, bound, sym, ◌∙◌}
+use Rattle.tables.proofs.Kit.{Placed, placed-begin, placed-next, placed-hits, placed-ends}
+use Rattle.tables.specs.Finding.{place_of, is_definition}
+use Rattle.tables.specs.Held.{definitions_in}
+use Rattle.tables.proofs.find_definition.Statement.{statement}
+use Rattle.tables.proofs.find_definition.Tie as tie
+
+abbrev invariant-loop : tie.invariant-loop
+invariant-loop permission t n i₀ i =
+    Placed (is_definition permission) t.entries n (place_of (is_definition permission) (definitions_in t)) i
+
+abbrev decreases-loop : tie.decreases-loop
+decreases-loop permission t n i₀ i = n - i
+
+loop-holds : tie.Need-loop-init invariant-loop decreases-loop
+loop-holds c = placed-begin (bound _ (definitions-long c.before.args.t1 c.before.well-formed.0) c.within.ensures)
+
+returns : tie.Need-returns invariant-loop decreases-loop
+returns c =
+    placed-hits c.before.before.before.before.loop.invariant c.before.before.before.loop-test.true _
+    (eq-eqb _ _ (sym c.before.wide.ensures ∙ c.if1.true))
+
+loop-again : tie.Need-loop-preserved invariant-loop decreases-loop
+loop-again c =
+    placed-next c.before.before.before.before.loop.invariant c.before.before.before.loop-test.true _
+    (ne_eqb _ _ (λ e. c.if1.false (c.before.wide.ensures ∙ e)))
+
+returns-2 : tie.Need-returns-2 invariant-loop decreases-loop
+returns-2 c = placed-ends c.before.loop.invariant c.loop-test.false
+
+pub find-definition-spec : {M : Type 1} → statement M
+find-definition-spec =
+    tie.close
+    (tie.spec
+    invariant-loop
+    decreases-loop
+    (λ c κs. search needs)
+    loop-holds
+    (λ c. omega arith)
+    (λ c. omega arith)
+    (λ c κs. search needs)
+    returns
+    (λ c. omega arith)
+    (λ c. omega arith)
+    loop-again
+    returns-2)

@@ -1,0 +1,13 @@
+-- `has_grant` meets its contract: another app's number fails the test, and else the list decides.
+use Rattle.tables.proofs.Kit.{ne_eqb, eq-eqb, ◌∙◌, needs}
+use Rattle.tables.proofs.has_grant.Statement.{statement}
+use Rattle.tables.proofs.has_grant.Tie as tie
+
+returns : tie.Need-returns
+returns c = rw (ne_eqb _ _ c.if1.true)
+
+returns-2 : tie.Need-returns-2
+returns-2 c = c.has-byte.ensures ∙ rw (eq-eqb _ _ c.before.before.before.before.if1.false)
+
+pub has-grant-spec : {M : Type 1} → statement M
+has-grant-spec = tie.close (tie.spec returns (λ c. search needs) (λ c κs. search needs) returns-2)

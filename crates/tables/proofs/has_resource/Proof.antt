@@ -1,0 +1,12 @@
+-- `has_resource` meets its contract: a place is found exactly if some entry passes.
+use Rattle.tables.proofs.Kit.{needs, ap, ◌∙◌}
+use Rattle.tables.specs.Finding.{is_at}
+use Rattle.tables.specs.FindingLaws.{at-if-any}
+use Rattle.tables.proofs.has_resource.Statement.{statement}
+use Rattle.tables.proofs.has_resource.Tie as tie
+
+returns : tie.Need-returns
+returns c = c.is_at.ensures ∙ ap is_at c.before.find-resource.ensures ∙ at-if-any _ _
+
+pub has-resource-spec : {M : Type 1} → statement M
+has-resource-spec = tie.close (tie.spec (λ c κs. search needs) (λ c κs. search needs) returns)

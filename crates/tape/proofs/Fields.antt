@@ -1,0 +1,110 @@
+-- Fields: how long they are, and that fields written one after the other are a line.
+use Prim.Native.Nat.{ℕ, suc, ◌+◌, ◌<◌, ◌≤◌, ◌^◌}
+use mathlib.Core.Path.{◌≡◌, sym, subst, ◌∙◌}
+use mathlib.Core.List.{List, [], ◌∷◌}
+use lib.ListN.{length, length-append}
+use native.Mathlib.Omega.{arith}
+use Rattle.rules.specs.declared.Ground.{Ground}
+use Rattle.rules.specs.declared.Ground.TheVariants.{Nothing, Owner, Permission, LoanToInstance, LoanToApp}
+use Rattle.rules.specs.declared.Reason.{Reason}
+use Rattle.rules.specs.declared.Reason.TheVariants.{StateNotValid, MalformedAction, MalformedManifest, AlreadyThere}
+use Rattle.rules.specs.declared.Reason.TheVariants.{NoSuchApp, NoSuchComponent, NoSuchInstance, NoSuchResource}
+use Rattle.rules.specs.declared.Reason.TheVariants.{Undefined, CannotBeGranted, NotPermitted, NothingToTakeBack, InUse}
+use Rattle.rules.specs.declared.Reason.TheVariants.{PartOfTheImage, NoRoom}
+use Rattle.rules.specs.declared.Answer.{Answer}
+use Rattle.rules.specs.declared.Answer.TheVariants.{Done, Refused}
+use Rattle.rules.specs.Answer.{number_of, ground_number, line_of}
+use Rattle.history.specs.Sheet.{digits_within, decimal, field, field_or_none, answer_text, line_text, end_text, running_text}
+use Rattle.history.specs.Sheet.{lent_text}
+use Rattle.history.specs.Run.{counts_text}
+use Rattle.tape.specs.Written.{Written}
+use Rattle.tape.proofs.Writing.{then}
+use Rattle.tape.proofs.Decimal.{tens, digits-most}
+
+pub length-field : (n b : ℕ) → length (field n b) ≡ length (decimal n) + 1
+length-field n b = length-append (decimal n) (b ∷ [])
+
+field-most : (k n b : ℕ) → n < 2 ^ 64 → n < tens (suc k) → length (field n b) ≤ k + 2
+field-most k n b l h = omega (arith, length-field n b, digits-most k n l h)
+
+-- a code, the place of an action, a value and a count, each with the byte after it
+pub code-field : (n b : ℕ) → n < 256 → length (field n b) ≤ 4
+unfolding tens
+code-field n b h = field-most 2 n b (omega arith) (omega arith)
+
+pub place-field : (n b : ℕ) → n < 10000 → length (field n b) ≤ 5
+unfolding tens
+place-field n b h = field-most 3 n b (omega arith) (omega arith)
+
+pub value-field : (n b : ℕ) → n < 4294967296 → length (field n b) ≤ 11
+unfolding tens
+value-field n b h = field-most 9 n b (omega arith) (omega arith)
+
+pub count-field : (n b : ℕ) → n < 2 ^ 64 → length (field n b) ≤ 21
+unfolding tens
+count-field n b h = field-most 19 n b h (omega arith)
+
+-- a ground has one digit and a refusal at most two
+ground-small : (g : Ground) → ground_number g < 10
+ground-small Nothing = omega arith
+ground-small Owner = omega arith
+ground-small Permission = omega arith
+ground-small LoanToInstance = omega arith
+ground-small LoanToApp = omega arith
+
+number_small : (r : Reason) → number_of r < 100
+number_small StateNotValid = omega arith
+number_small MalformedAction = omega arith
+number_small MalformedManifest = omega arith
+number_small AlreadyThere = omega arith
+number_small NoSuchApp = omega arith
+number_small NoSuchComponent = omega arith
+number_small NoSuchInstance = omega arith
+number_small NoSuchResource = omega arith
+number_small Undefined = omega arith
+number_small CannotBeGranted = omega arith
+number_small NotPermitted = omega arith
+number_small NothingToTakeBack = omega arith
+number_small InUse = omega arith
+number_small PartOfTheImage = omega arith
+number_small NoRoom = omega arith
+
+pub ground-field : {a : Answer} {g : Ground} {v : ℕ} (n m b : ℕ) → a ≡ Done g v → n ≡ m → m ≡ ground_number g
+    → length (field n b) ≤ 2
+unfolding tens
+ground-field {g = g} n m b q e f = let h = ground-small g in field-most 0 n b (omega arith) (omega arith)
+
+pub number-field : {a : Answer} {r : Reason} (n m b : ℕ) → a ≡ Refused r → n ≡ m → m ≡ number_of r
+    → length (field n b) ≤ 3
+unfolding tens
+number-field {r = r} n m b q e f = let h = number_small r in field-most 1 n b (omega arith) (omega arith)
+
+-- ---- lines
+pub same-field : {l m : List ℕ} {i j n x : ℕ} (b : ℕ) → n ≡ x → Written l i (field n b) m j
+    → Written l i (field x b) m j
+same-field {l} {m} {i} {j} b e w = subst (λ (k : ℕ). Written l i (field k b) m j) e w
+
+pub done-written : {l m n o : List ℕ} {i j k h v x y : ℕ} {g : Ground} {a : Answer} → a ≡ Done g v → x ≡ y
+    → y ≡ ground_number g → Written l i (48 ∷ 32 ∷ []) m j → Written m j (field x 32) n k → Written n k (field v 10) o h
+    → Written l i (answer_text a) o h
+unfolding answer_text line_of field_or_none decimal digits_within
+done-written {l} {o = o} {i} {h = h} e p q u v w =
+    subst (λ (t : Answer). Written l i (answer_text t) o h) (sym e) (then u (then (same-field 32 (p ∙ q) v) w))
+
+pub refused-written : {l m n : List ℕ} {i j k x y : ℕ} {r : Reason} {a : Answer} → a ≡ Refused r → x ≡ y
+    → y ≡ number_of r → Written l i (field x 32) m j → Written m j (45 ∷ 32 ∷ 45 ∷ 10 ∷ []) n k
+    → Written l i (answer_text a) n k
+unfolding answer_text line_of field_or_none
+refused-written {l} {n = n} {i} {k = k} e p q v w =
+    subst (λ (t : Answer). Written l i (answer_text t) n k) (sym e) (then (same-field 32 (p ∙ q) v) w)
+
+pub line-written : {l m n o : List ℕ} {i j k h : ℕ} (place code : ℕ) (a : Answer) → Written l i (field place 32) m j
+    → Written m j (field code 32) n k → Written n k (answer_text a) o h → Written l i (line_text place code a) o h
+unfolding line_text
+line-written place code a u v w = then u (then v w)
+
+pub counts-written : {l m n o p q r : List ℕ} {h i j k f d e : ℕ} (x y z : ℕ) → Written l h end_text m i
+    → Written m i (field x 32) n j → Written n j running_text o k → Written o k (field y 32) p f
+    → Written p f lent_text q d → Written q d (field z 10) r e → Written l h (counts_text x y z) r e
+unfolding counts_text
+counts-written x y z s t u v w a = then s (then t (then u (then v (then w a))))
