@@ -1,5 +1,6 @@
 //! The conditions of every action: for each action a function that gives its answer for every device.
 //! The tests come in the order of the refusals, so that the first that applies is the answer.
+#![tactic(auto)]
 
 ghost use Rattle.std.specs.Prelude.{◌≡◌, not, ◌&&◌, ◌||◌, [], ◌+◌, ◌*◌, ◌≤◌, min, length, take, eqb, ltb, leb};
 ghost use Rattle.manifest.specs.declared.Verdict.TheVariants.{Good};
@@ -31,28 +32,28 @@ use state::{App, Apps, Definitions, Device, Instances, Parts, Resources};
 use tables::{Look, Operation, Place};
 
 /// To whom a loan goes.
-#[derive(Drop)]
+#[derive(Clone, Copy)]
 pub enum Receiver {
     Instance(u32),
     App(u32),
 }
 
 /// A component of the kind looked for, or none.
-#[derive(Drop)]
+#[derive(Clone, Copy)]
 pub enum Installed {
     Found(Part),
     Missing,
 }
 
 /// The stored value of a resource, or none.
-#[derive(Drop)]
+#[derive(Clone, Copy)]
 pub enum Stored {
     Value(u32),
     Nothing,
 }
 
 /// What stands in the way of an operation by an instance on a provider, or what it rests on.
-#[derive(Drop)]
+#[derive(Clone, Copy)]
 pub enum Way {
     NoProvider,
     NoInstance,

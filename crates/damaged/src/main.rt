@@ -1,3 +1,5 @@
+#![tactic(auto)]
+
 // Damages a valid device in one place at a time, asks whether the state is still valid, and writes a line for each.
 // Document 01, "A valid state": each clause, at its edge.
 use libc::STDOUT_FILENO;
@@ -6,7 +8,7 @@ use rules::{Definition, Instance, Loan, Part};
 use state::{App, Apps, Definitions, Device, Instances, Parts, Resources};
 
 // A device and the lent table.
-#[derive(Drop)]
+#[derive(Clone, Copy)]
 struct World {
     device: Device,
     lent: [Loan; 128],

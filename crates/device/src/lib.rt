@@ -1,5 +1,6 @@
 //! Is the state valid? For every device and every lent table, whatever their bytes.
 //! Document 01, "A valid state".
+#![tactic(auto)]
 
 ghost use Rattle.std.specs.Prelude.{◌≤◌, ◌<◌, ◌≡◌, true, false, ◌&&◌, [], length, take, eqb, ltb};
 ghost use Rattle.manifest.specs.Good.{good_defines, good_components, good_resources, uses_rise};

@@ -1,5 +1,6 @@
 //! What an action's bytes ask for, and the loan table: by value, and lent in place.
 //! Every function answers for every input, also a table with a count past its array or garbage past its count.
+#![tactic(auto)]
 
 ghost use Rattle.std.specs.Prelude.{◌≡◌, map, ◌≤◌, ◌<◌, min, take, get_or, set, eqb};
 ghost use Rattle.manifest.specs.Layout.{u16_at, u32_at};
@@ -21,7 +22,7 @@ use state::Parts;
 use tables::Operation;
 
 /// What an action asks for. A lend's receiver and a written value stand at full width.
-#[derive(Drop)]
+#[derive(Clone, Copy)]
 pub enum Asked {
     Install {
         image: bool,
@@ -92,35 +93,35 @@ pub enum Asked {
 }
 
 /// The loan table by value; places past the count are zero.
-#[derive(Drop)]
+#[derive(Clone, Copy)]
 pub struct Loans {
     pub entries: [Loan; 128],
     pub count: usize,
 }
 
 /// To whom a loan is.
-#[derive(Drop)]
+#[derive(Clone, Copy)]
 pub enum Receiver {
     Instance(u16),
     App(u16),
 }
 
 /// A copy of a lent table: its first 128 records, zero where one is missing, and how many it has.
-#[derive(Drop)]
+#[derive(Clone, Copy)]
 pub struct Lent {
     pub table: [Loan; 128],
     pub length: usize,
 }
 
 /// The records from `from` on, up to `to`; none where `to` is not above `from`.
-#[derive(Drop)]
+#[derive(Clone, Copy)]
 pub struct Range {
     pub from: usize,
     pub to: usize,
 }
 
 // The numbers of an action record, in their order.
-#[derive(Drop)]
+#[derive(Clone, Copy)]
 struct Record {
     code: u8,
     a: u8,

@@ -3,4 +3,3 @@ pub mod Counts
 pub mod Places
 pub mod Whole
 pub mod Reading
-pub mod Walk

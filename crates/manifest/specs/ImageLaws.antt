@@ -116,8 +116,8 @@ module _ {A : Type 0} (f : List ℕ → ℕ → A) (size : ℕ) (w : A → List 
   entries-back (x ∷ xs) rest =
       let q = joined w xs ++ rest in
       let e : 0 + size ≡ length (w x) + 0 = omega (arith, long x) in
-      rw (append_assoc (w x) (joined w xs) rest, e) (ap₂ ◌∷◌ (here x q) (entries-past (w x) q 0 (length xs)
-      ∙ entries-back xs rest))
+      ap (λ (s : List ℕ). entries (f s) size 0 (suc (length xs))) (append_assoc (w x) (joined w xs) rest)
+      ∙ rw e (ap₂ ◌∷◌ (here x q) (entries-past (w x) q 0 (length xs) ∙ entries-back xs rest))
 
   -- after a prefix p, before any rest
   module _ (p rest : List ℕ) (xs : List A) where

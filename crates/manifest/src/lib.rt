@@ -1,4 +1,6 @@
 //! Reads a manifest: is it good, and where do its sections stand. Document 01, "The manifest, in sections".
+#![tactic(auto)]
+
 ghost use Rattle.std.specs.Prelude.{◌≡◌, true, ◌+◌, ◌*◌, ◌≤◌, ◌<◌, length, leb};
 ghost use Rattle.manifest.specs.Layout.{u8_at, u16_at, u32_at, define_at, component_at, resource_at, entries, after};
 ghost use Rattle.manifest.specs.Good.{any, good_define, good_component, is_provider_of, uses_rise, defines_rise};
@@ -9,7 +11,7 @@ ghost use Rattle.manifest.specs.Steps.{count_of, uses_end, defines_end, componen
 ghost use Rattle.manifest.specs.Steps.{rest_end, part_end, passed, end_verdict};
 
 /// An entry of the section defines.
-#[derive(Drop)]
+#[derive(Clone, Copy)]
 pub struct Define {
     pub permission: u8,
     pub level: u8,
@@ -17,7 +19,7 @@ pub struct Define {
 }
 
 /// An entry of the section components.
-#[derive(Drop)]
+#[derive(Clone, Copy)]
 pub struct Component {
     pub number: u16,
     pub kind: u8,
@@ -29,7 +31,7 @@ pub struct Component {
 }
 
 /// An entry of the section resources; `value` is its first value.
-#[derive(Drop)]
+#[derive(Clone, Copy)]
 pub struct Resource {
     pub provider: u16,
     pub uri: u16,
@@ -37,14 +39,14 @@ pub struct Resource {
 }
 
 /// Where the first entry of a section stands, and how many entries there are.
-#[derive(Drop)]
+#[derive(Clone, Copy)]
 pub struct Section {
     pub first: usize,
     pub count: u8,
 }
 
 /// What the sections of a good manifest hold, and where.
-#[derive(Drop)]
+#[derive(Clone, Copy)]
 pub struct Sections {
     pub app: u16,
     pub signer: u32,
@@ -55,28 +57,28 @@ pub struct Sections {
 }
 
 /// What a manifest's bytes are found to be.
-#[derive(Drop)]
+#[derive(Clone, Copy)]
 pub enum Verdict {
     Good(Sections),
     Malformed,
 }
 
 /// The manifest's bytes and the place that was reached in them.
-#[derive(Drop)]
+#[derive(Clone, Copy)]
 pub struct Reader<'a> {
     pub src: &'a [u8],
     pub at: usize,
 }
 
 /// Where a part of a manifest ends, or that it is malformed.
-#[derive(Drop)]
+#[derive(Clone, Copy)]
 enum Place {
     At(usize),
     Refused,
 }
 
 /// How many entries a section has, or that they are too many or not all there.
-#[derive(Drop)]
+#[derive(Clone, Copy)]
 enum Count {
     Of(usize),
     Refused,

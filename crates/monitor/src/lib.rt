@@ -1,4 +1,5 @@
 //! One step of the monitor: the validity test, the answer, and the tables after it.
+#![tactic(auto)]
 
 ghost use Rattle.std.specs.Prelude.{◌≡◌, true, [], ◌+◌, ◌*◌, ◌≤◌, length, leb};
 ghost use Rattle.manifest.specs.Layout.{u8_at, define_at, component_at, resource_at, entries, manifest_of};
@@ -26,7 +27,7 @@ use state::{App, Definitions, Device, Parts, Resources};
 use tables::Change;
 
 /// What a step leaves, and what comes back.
-#[derive(Drop)]
+#[derive(Clone, Copy)]
 pub struct Stepped {
     pub device: Device,
     pub lent: [Loan; 128],
@@ -34,14 +35,14 @@ pub struct Stepped {
 }
 
 /// What comes back of a step that leaves its loan table where it is lent.
-#[derive(Drop)]
+#[derive(Clone, Copy)]
 pub struct Outcome {
     pub device: Device,
     pub answer: Answer,
 }
 
 // What a step leaves, what comes back, and which records of the table to write.
-#[derive(Drop)]
+#[derive(Clone, Copy)]
 struct Written {
     device: Device,
     answer: Answer,

@@ -1,5 +1,6 @@
 //! What the rules speak of: the rows of the tables, the answers, and their numbers.
 //! Document 01, "Numbers that come back".
+#![tactic(auto)]
 
 ghost use Rattle.std.specs.Prelude.{◌≡◌};
 ghost use Rattle.rules.specs.Answer.{number_of, ground_number};
@@ -8,28 +9,28 @@ ghost use Rattle.rules.specs.Permissions.{is_held};
 use manifest::{Component, Define};
 
 /// A permission defined by an installed app, with the app's number.
-#[derive(Drop)]
+#[derive(Clone, Copy)]
 pub struct Definition {
     pub app: u16,
     pub define: Define,
 }
 
 /// An installed component, with its app's number.
-#[derive(Drop)]
+#[derive(Clone, Copy)]
 pub struct Part {
     pub app: u16,
     pub component: Component,
 }
 
 /// A running instance, and the number of its component.
-#[derive(Drop)]
+#[derive(Clone, Copy)]
 pub struct Instance {
     pub number: u8,
     pub component: u16,
 }
 
 /// A loan on a resource: kind 1 to an instance, kind 2 to an app. Operations: 1 read, 2 write, 3 both.
-#[derive(Drop)]
+#[derive(Clone, Copy)]
 pub struct Loan {
     pub kind: u8,
     pub receiver: u16,
@@ -39,7 +40,7 @@ pub struct Loan {
 }
 
 /// A definition in force; definer 0 is the platform.
-#[derive(Drop)]
+#[derive(Clone, Copy)]
 pub struct Known {
     pub definer: u16,
     pub signer: u32,
@@ -48,7 +49,7 @@ pub struct Known {
 }
 
 /// What a done read or write rests on; `Nothing` for every other action.
-#[derive(Drop)]
+#[derive(Clone, Copy)]
 pub enum Ground {
     Nothing,
     Owner,
@@ -58,7 +59,7 @@ pub enum Ground {
 }
 
 /// Why an action is refused, in the order of document 01's table.
-#[derive(Drop)]
+#[derive(Clone, Copy)]
 pub enum Reason {
     StateNotValid,
     MalformedAction,
@@ -78,14 +79,14 @@ pub enum Reason {
 }
 
 /// What comes back for an action.
-#[derive(Drop)]
+#[derive(Clone, Copy)]
 pub enum Answer {
     Done { ground: Ground, value: u32 },
     Refused(Reason),
 }
 
 /// Why an app holds a defined permission, or does not.
-#[derive(Drop)]
+#[derive(Clone, Copy)]
 pub enum Hold {
     Normal,
     Granted,

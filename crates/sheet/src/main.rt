@@ -1,4 +1,5 @@
 //! Reads a tape from standard input and writes its answer sheet to standard output.
+#![tactic(auto)]
 
 use libc::{STDERR_FILENO, STDIN_FILENO, STDOUT_FILENO};
 use tape::Wrote;

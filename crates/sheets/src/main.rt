@@ -1,5 +1,6 @@
 //! Reads many tapes from standard input, each after its length as a u32, little-endian, and writes the sheet of each,
 //! followed by a line with a single `.`. For comparisons of many tapes in one run.
+#![tactic(auto)]
 
 ghost use Rattle.std.specs.Prelude.{◌+◌, ◌*◌, ◌≤◌, ◌<◌, length};
 ghost use Rattle.io.specs.Counts.{IsPrefixLen};
@@ -8,7 +9,7 @@ use libc::{STDERR_FILENO, STDIN_FILENO, STDOUT_FILENO};
 use tape::Wrote;
 
 /// What was read: a tape of so many bytes at the front of the buffer, or the end of the stream.
-#[derive(Drop)]
+#[derive(Clone, Copy)]
 struct Read {
     more: bool,
     length: usize,

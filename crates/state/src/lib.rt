@@ -1,10 +1,11 @@
 //! The device by value: tables of fixed room, each with its count. Places past a count are zero.
+#![tactic(auto)]
 
 use manifest::Resource;
 use rules::{Definition, Instance, Part};
 
 /// An installed app, with its own lists of uses, of individual grants and of granted groups.
-#[derive(Drop)]
+#[derive(Clone, Copy)]
 pub struct App {
     pub number: u16,
     pub signer: u32,
@@ -17,32 +18,32 @@ pub struct App {
     pub grouped: u8,
 }
 
-#[derive(Drop)]
+#[derive(Clone, Copy)]
 pub struct Apps {
     pub entries: [App; 16],
     pub count: usize,
 }
 
-#[derive(Drop)]
+#[derive(Clone, Copy)]
 pub struct Definitions {
     pub entries: [Definition; 256],
     pub count: usize,
 }
 
-#[derive(Drop)]
+#[derive(Clone, Copy)]
 pub struct Parts {
     pub entries: [Part; 64],
     pub count: usize,
 }
 
-#[derive(Drop)]
+#[derive(Clone, Copy)]
 pub struct Resources {
     pub entries: [Resource; 128],
     pub count: usize,
 }
 
 /// The running instances; bit n - 1 of `running` says that instance n runs.
-#[derive(Drop)]
+#[derive(Clone, Copy)]
 pub struct Instances {
     pub entries: [Instance; 64],
     pub count: usize,
@@ -50,7 +51,7 @@ pub struct Instances {
 }
 
 /// All tables but the loans', which are lent; `lent` counts the loans there.
-#[derive(Drop)]
+#[derive(Clone, Copy)]
 pub struct Device {
     pub apps: Apps,
     pub definitions: Definitions,

@@ -1,5 +1,6 @@
 //! The device's tables by value: searches, changes, the built-in permissions and the hold rule.
 //! Every function answers for every table, also one with a count past its array or garbage past its count.
+#![tactic(auto)]
 
 ghost use Rattle.std.specs.Prelude.{◌≡◌, ◌&&◌, not, [], min, take, eqb};
 ghost use Rattle.std.specs.Int.Bits.{bit_and, bit_or};
@@ -27,28 +28,28 @@ use rules::{Definition, Ground, Hold, Instance, Known, Part};
 use state::{App, Apps, Definitions, Instances, Parts, Resources};
 
 /// Where a search ends.
-#[derive(Drop)]
+#[derive(Clone, Copy)]
 pub enum Place {
     At(usize),
     Nothing,
 }
 
 /// A definition in force, or none.
-#[derive(Drop)]
+#[derive(Clone, Copy)]
 pub enum Look {
     Found(Known),
     Undefined,
 }
 
 /// What is done with a resource.
-#[derive(Drop)]
+#[derive(Clone, Copy)]
 pub enum Operation {
     Read,
     Write,
 }
 
 /// How a grant action changes one of an app's lists.
-#[derive(Drop)]
+#[derive(Clone, Copy)]
 pub enum Change {
     AddGrant,
     TakeGrant,
@@ -57,7 +58,7 @@ pub enum Change {
 }
 
 // A built-in permission's level and group; level 4 says that it is undefined.
-#[derive(Drop)]
+#[derive(Clone, Copy)]
 struct BuiltIn {
     level: u8,
     group: u8,

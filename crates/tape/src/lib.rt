@@ -1,4 +1,5 @@
 //! From a tape's bytes to the answer sheet's bytes: document 01, "The tape and the answer sheet".
+#![tactic(auto)]
 
 ghost use Rattle.std.specs.Prelude.{◌≡◌, ◌+◌, ◌*◌, ◌≤◌, ◌<◌, length, replicate};
 ghost use Rattle.manifest.specs.Layout.{u16_at};
@@ -18,14 +19,14 @@ use rules::{Answer, Definition, Instance, Loan, Part};
 use state::{App, Apps, Definitions, Device, Instances, Parts, Resources};
 
 /// How many bytes of the buffer are written, or that the buffer is too short and nothing is.
-#[derive(Drop)]
+#[derive(Clone, Copy)]
 pub enum Wrote {
     Bytes(usize),
     TooShort,
 }
 
 /// What a run leaves, and what it wrote.
-#[derive(Drop)]
+#[derive(Clone, Copy)]
 pub struct Ran {
     pub device: Device,
     pub lent: [Loan; 128],
@@ -33,14 +34,14 @@ pub struct Ran {
 }
 
 /// Where the count of a tape's actions stands, or that the bytes are no tape.
-#[derive(Drop)]
+#[derive(Clone, Copy)]
 enum Start {
     At(usize),
     NoTape,
 }
 
 // Device and loan table after some records, and where their lines end in the buffer.
-#[derive(Drop)]
+#[derive(Clone, Copy)]
 struct Lines {
     device: Device,
     lent: [Loan; 128],

@@ -1,3 +1,5 @@
+#![tactic(auto)]
+
 // Reads manifests from standard input, each after its u16 length, and writes a line for each: `0` for a good
 // manifest, `3` for any other bytes. Where the input ends inside a manifest the last line is `cut`.
 ghost use Rattle.std.specs.Prelude.{◌≡◌, ◌+◌, ◌*◌, ◌≤◌, length};
@@ -5,7 +7,7 @@ ghost use Rattle.std.specs.Prelude.{◌≡◌, ◌+◌, ◌*◌, ◌≤◌, leng
 use libc::{STDERR_FILENO, STDIN_FILENO, STDOUT_FILENO};
 
 // What the input has next: a manifest, whose answer is this digit; its end; or less than was announced.
-#[derive(Drop)]
+#[derive(Clone, Copy)]
 enum Next {
     Answer(u8),
     End,

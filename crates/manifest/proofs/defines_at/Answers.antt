@@ -1,0 +1,57 @@
+-- `defines_at` meets its contract: the count is good, and the loop over the entries answers what the definition asks of
+-- them.
+use mathlib.Core.Bool.{Bool}
+use native.Mathlib.Omega.{arith}
+use Prim.Native.Nat.{ℕ, ◌+◌}
+use Rattle.manifest.proofs.Counts.{Counted, count-told, end-good, end-bad, end-not}
+use Rattle.manifest.specs.Layout.{define_at, entries, section}
+use Rattle.manifest.specs.Good.{defines_rise}
+use Rattle.manifest.proofs.defines_at.Goals as goal
+use Rattle.manifest.proofs.defines_at.Goals.{In-Of}
+
+-- what the count says, where the loop's answer is asked for
+known : (c : In-Of) → Counted 3 16 c.args.s.now
+    c.args.at c.in-Of.n
+known c =
+    let a = c.args in
+    count-told 3 16 a.s.now a.at c.count_at.ensures c.in-Of.is
+
+rise : (c : In-Of) → ℕ → Bool
+rise c k =
+    let a = c.args in
+    defines_rise 0 (entries (define_at a.s.now) 3 (a.at + 1) k)
+
+pub overflow_add-at : goal.overflow_add-at
+overflow_add-at c = omega (arith, (known (goal.at.overflow_add-at c).In-Of).fits)
+
+pub defines_rise-requires : goal.defines_rise-requires
+defines_rise-requires c = (known (goal.at.defines_rise-requires c).In-Of).fits
+
+pub overflow_add-result : goal.overflow_add-result
+overflow_add-result c = omega (arith, (known (goal.at.overflow_add-result c).In-Of).fits)
+
+pub overflow_mul-result : goal.overflow_mul-result
+overflow_mul-result c = omega (arith, (known (goal.at.overflow_mul-result c).In-Of).fits)
+
+pub overflow_add-result-then-defines_rise : goal.overflow_add-result-then-defines_rise
+overflow_add-result-then-defines_rise c = omega (arith, (known (goal.at.overflow_add-result-then-defines_rise c).In-Of).fits)
+
+pub returns-then-defines_rise : goal.returns-then-defines_rise
+unfolding rise
+returns-then-defines_rise c =
+    let a = c.args in
+    end-good 3 16 a.s.now a.at (rise (goal.at.returns-then-defines_rise c).In-Of) (known (goal.at.returns-then-defines_rise c).In-Of)
+    c.defines_rise.ensures c.if-defines_rise.true
+
+pub returns-else-defines_rise : goal.returns-else-defines_rise
+unfolding rise
+returns-else-defines_rise c =
+    let a = c.args in
+    end-bad 3 16 a.s.now a.at (rise (goal.at.returns-else-defines_rise c).In-Of) (known (goal.at.returns-else-defines_rise c).In-Of)
+    c.defines_rise.ensures c.if-defines_rise.false
+
+pub returns-in-Refused : goal.returns-in-Refused
+returns-in-Refused c =
+    let a = c.args in
+    end-not 3 16 a.s.now a.at c.count_at.ensures c.in-Refused.is
+    (defines_rise 0 (section define_at 3 a.s.now a.at))

@@ -1,0 +1,15 @@
+-- `has_provider` meets its contract: at each turn the whole answer is the answer for the components that are left.
+use mathlib.Core.Path.{◌≡◌}
+use Prim.Native.Nat.{◌+◌, ◌*◌}
+use Rattle.manifest.specs.Layout.{component_at, entries}
+use Rattle.manifest.specs.Good.{any, is_provider_of}
+use Rattle.manifest.proofs.has_provider.Given as goal
+
+abbrev pub invariant-loop-left : goal.invariant-loop-left
+invariant-loop-left l =
+    (l.i + 8 * l.left ≡ l.from + 8 * l.count)
+    × (any (is_provider_of l.p) (entries (component_at l.s) 8 l.from l.count) ≡ any (is_provider_of l.p)
+    (entries (component_at l.s) 8 l.i l.left))
+
+abbrev pub decreases-loop-left : goal.decreases-loop-left
+decreases-loop-left l = l.left
