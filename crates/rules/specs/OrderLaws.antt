@@ -81,6 +81,7 @@ least (r ∷ rs) d q h e nay = go r.applies refl e
 none-applies : (rs : List Refusal) (g : Ground) (w : ℕ) (d : Answer) → decide rs d ≡ Done g w → (n : Reason)
     → Applies rs n → ⊥
 unfolding decide
+none-applies [] g w d e n m = elim m [ ]
 none-applies (r ∷ rs) g w d e n (Memᴰ.head q) = let a : true ≡ r.applies = ap (λ (r : Refusal). r.applies) q in
     go r.applies a e
   where
