@@ -20,22 +20,22 @@ use Rattle.state.specs.declared.Instances.{Instances}
 
 module _ {vs : List Val} where
   pub apps-long : (t : Apps) → Is (row apps-type.the_type) t vs → length t.entries ≡ 16
-  apps-long t g = sym (length-map t.entries _) ∙ g.1.1.0.1.0.1
+  apps-long t g = g.1.1.0.1.0.1
 
   pub definitions-long : (t : Definitions) → Is (row definitions-type.the_type) t vs → length t.entries ≡ 256
-  definitions-long t g = sym (length-map t.entries _) ∙ g.1.1.0.1.0.1
+  definitions-long t g = g.1.1.0.1.0.1
 
   pub parts-long : (t : Parts) → Is (row parts-type.the_type) t vs → length t.entries ≡ 64
-  parts-long t g = sym (length-map t.entries _) ∙ g.1.1.0.1.0.1
+  parts-long t g = g.1.1.0.1.0.1
 
   pub resources-long : (t : Resources) → Is (row resources-type.the_type) t vs → length t.entries ≡ 128
-  resources-long t g = sym (length-map t.entries _) ∙ g.1.1.0.1.0.1
+  resources-long t g = g.1.1.0.1.0.1
 
   pub instances-long : (t : Instances) → Is (row instances-type.the_type) t vs → length t.entries ≡ 64
-  instances-long t g = sym (length-map t.entries _) ∙ g.1.1.0.1.0.1
+  instances-long t g = g.1.1.0.1.0.1
 
   pub grants-long : (a : App) → Is (row app-type.the_type) a vs → length a.grants ≡ 32
-  grants-long a g = sym (length-map a.grants _) ∙ g.1.1.1.1.1.1.1.0.1.0.1
+  grants-long a g = g.1.1.1.1.1.1.1.0.1.0.1
 
   pub groups-long : (a : App) → Is (row app-type.the_type) a vs → length a.groups ≡ 15
-  groups-long a g = sym (length-map a.groups _) ∙ g.1.1.1.1.1.1.1.1.1.0.1.0.1
+  groups-long a g = g.1.1.1.1.1.1.1.1.1.0.1.0.1

@@ -1,0 +1,12 @@
+-- `allows` meets its contract: 0 needs nothing, and any other permission has to be held.
+use Rattle.tables.proofs.Kit.{◌∙◌, eq-eqb, ne_eqb, rules}
+use Rattle.rules.specs.Permissions.{holds, allows}
+use Rattle.tables.proofs.allows.Goals as goal
+
+pub returns-then-permission-eq0 : goal.returns-then-permission-eq0
+unfolding allows
+returns-then-permission-eq0 c = rw (eq-eqb _ _ c.if-permission-eq0.true)
+
+pub returns : goal.returns
+unfolding allows
+returns c = c.holds.ensures ∙ rw (ne_eqb _ _ c.if-permission-eq0.false, c.wide-p.ensures)

@@ -1,0 +1,11 @@
+-- `cut_apps` meets its contract: the places from the end of the list on are made zero, one at each turn.
+use Rattle.tables.proofs.Kit.{◌-◌, arith, rules, Bound, bound, apps-long}
+use Rattle.tables.proofs.Kit.{Cleared, cleared-begin, cleared-next, cleared-ends, cleared-count}
+use Rattle.state.specs.Stored.{zero_app}
+use Rattle.tables.proofs.cut_apps.Given as goal
+
+abbrev pub invariant-loop-j : goal.invariant-loop-j
+invariant-loop-j l = Cleared l.z l.initial.t.entries 16 l.n l.j l.t.entries
+
+abbrev pub decreases-loop-j : goal.decreases-loop-j
+decreases-loop-j l = 16 - l.j

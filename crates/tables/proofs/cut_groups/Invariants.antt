@@ -1,0 +1,12 @@
+-- `cut_groups` meets its contract: the places from the end of the list on are made zero, one at each turn.
+use Rattle.tables.proofs.Kit.{ℕ, ◌-◌, ◌≡◌, refl, ap, ◌∙◌, set, arith, rules, Bound, bound, groups-long}
+use Rattle.tables.proofs.Kit.{Cleared, cleared-begin, cleared-next, cleared-ends, cleared-count}
+use Rattle.state.specs.declared.App.{App}
+use Rattle.tables.specs.Changing.{regroup}
+use Rattle.tables.proofs.cut_groups.Given as goal
+
+abbrev pub invariant-loop-j : goal.invariant-loop-j
+invariant-loop-j l = (l.t ≡ regroup l.initial.t l.t.groups l.initial.t.grouped) × Cleared 0 l.initial.t.groups 15 l.n l.j l.t.groups
+
+abbrev pub decreases-loop-j : goal.decreases-loop-j
+decreases-loop-j l = 15 - l.j

@@ -1,0 +1,24 @@
+-- `cut_instances` meets its contract: the places from the end of the list on are made zero, one at each turn.
+use Rattle.tables.proofs.Kit.{◌-◌, arith, rules, Bound, bound, instances-long}
+use Rattle.tables.proofs.Kit.{Cleared, cleared-begin, cleared-next, cleared-ends, cleared-count}
+use Rattle.state.specs.Stored.{zero_instance}
+use Rattle.tables.proofs.cut_instances.Goals as goal
+
+pub loop-j-init : goal.loop-j-init
+loop-j-init c = let s = c in
+    cleared-begin (instances-long s.args.instances s.well_formed.0) (omega arith)
+
+pub loop-j-preserved : goal.loop-j-preserved
+loop-j-preserved c = cleared-next c.loop-j.invariant c.loop-j-test.true
+
+pub returns : goal.returns
+returns c =
+    let s = c in
+    let l = c.loop-j in
+    let f : Cleared zero_instance s.args.instances.entries 64 c.within-n.result l.j
+    l.t.entries =
+    rw (← c.zero_instance-z.ensures) l.invariant in
+    let b : Bound s.args.instances.entries s.args.count c.within-n.result =
+    bound s.args.count (instances-long s.args.instances s.well_formed.0)
+    c.within-n.ensures in
+    cc (cleared-ends f c.loop-j-test.false, cleared-count f, b.same)

@@ -1,0 +1,14 @@
+-- `defines` meets its contract: at each turn the whole answer is the answer for the definitions that are left.
+use Rattle.tables.proofs.Kit.{definitions-long, eqb, ◌&&◌, ◌-◌, arith, rules, bound}
+use Rattle.tables.proofs.Kit.{Some, some-begin, some_next, some-hits, some-ends}
+use Rattle.state.specs.Tables.{defined_by}
+use Rattle.tables.specs.Held.{definitions_in}
+use Rattle.tables.proofs.defines.Given as goal
+
+abbrev pub invariant-loop-i : goal.invariant-loop-i
+invariant-loop-i l =
+    Some (λ d. eqb d.app l.app && eqb d.define.permission l.permission) l.definitions.entries l.n
+    (defined_by (definitions_in l.definitions) l.app l.permission) l.i
+
+abbrev pub decreases-loop-i : goal.decreases-loop-i
+decreases-loop-i l = l.n - l.i

@@ -1,0 +1,22 @@
+-- `find_definition` meets its contract: at each turn the whole answer is the answer for the definitions that are left.
+use Rattle.tables.proofs.Kit.{◌-◌, arith, rules, eq-eqb, ne_eqb, definitions-long, bound, sym, ◌∙◌}
+use Rattle.tables.proofs.Kit.{Placed, placed-begin, placed-next, placed-hits, placed-ends}
+use Rattle.tables.specs.Finding.{place_of, is_definition}
+use Rattle.tables.specs.Held.{definitions_in}
+use Rattle.tables.proofs.find_definition.Goals as goal
+
+pub loop-i-init : goal.loop-i-init
+loop-i-init c = placed-begin (bound _ (definitions-long c.args.definitions c.well_formed.0) c.within-end.ensures)
+
+pub returns-then-wide-permission : goal.returns-then-wide-permission
+returns-then-wide-permission c =
+    placed-hits c.loop-i.invariant c.loop-i-test.true _
+    (eq-eqb _ _ (sym c.wide.ensures ∙ c.if-wide-permission.true))
+
+pub loop-i-preserved : goal.loop-i-preserved
+loop-i-preserved c =
+    placed-next c.loop-i.invariant c.loop-i-test.true _
+    (ne_eqb _ _ (λ e. c.if-wide-permission.false (c.wide.ensures ∙ e)))
+
+pub returns : goal.returns
+returns c = placed-ends c.loop-i.invariant c.loop-i-test.false

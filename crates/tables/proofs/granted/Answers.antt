@@ -1,0 +1,27 @@
+-- `granted` meets its contract: at each turn the whole answer is the answer for the apps that are left.
+use Rattle.tables.proofs.Kit.{sym, ◌∙◌, apps-long, eqb, ◌&&◌, ◌-◌, arith, rules, bound}
+use Rattle.tables.proofs.Kit.{Some, some_as, some_next, some-hits, some-ends}
+use Rattle.rules.specs.Lists.{mem}
+use Rattle.state.specs.Stored.{row_of}
+use Rattle.state.specs.Tables.{app_number, granted_in}
+use Rattle.tables.specs.Held.{apps_in, rows_in}
+use Rattle.tables.specs.LookingLaws.{granted-any}
+use Rattle.tables.proofs.granted.Goals as goal
+
+pub loop-i-init : goal.loop-i-init
+loop-i-init c =
+    some_as (granted-any (apps_in c.args.apps) _ _)
+    (bound _ (apps-long c.args.apps c.well_formed.0) c.within-n.ensures)
+
+pub returns-then-has_grant : goal.returns-then-has_grant
+returns-then-has_grant c =
+    some-hits c.loop-i.invariant c.loop-i-test.true _
+    (sym c.has_grant.ensures ∙ c.if-has_grant.true)
+
+pub loop-i-preserved : goal.loop-i-preserved
+loop-i-preserved c =
+    some_next c.loop-i.invariant c.loop-i-test.true _
+    (sym c.has_grant.ensures ∙ c.if-has_grant.false)
+
+pub returns : goal.returns
+returns c = some-ends c.loop-i.invariant c.loop-i-test.false

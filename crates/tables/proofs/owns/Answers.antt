@@ -1,0 +1,25 @@
+-- `owns` meets its contract: at each turn the whole answer is the answer for the components that are left.
+use Rattle.tables.proofs.Kit.{parts-long, eqb, ◌&&◌, ◌-◌, arith, rules, bound}
+use Rattle.tables.proofs.Kit.{Some, some-begin, some_next, some-hits, some-ends}
+use Rattle.state.specs.Tables.{owned_by}
+use Rattle.tables.specs.Held.{parts_in}
+use Rattle.tables.proofs.owns.Goals as goal
+
+pub loop-i-init : goal.loop-i-init
+unfolding owned_by
+loop-i-init c = some-begin (bound _ (parts-long c.args.parts c.well_formed.0) c.within-n.ensures)
+
+pub returns-then-e-app : goal.returns-then-e-app
+unfolding owned_by
+returns-then-e-app c =
+    some-hits c.loop-i.invariant
+    c.loop-i-test.true _ c.if-e-app.true
+
+pub loop-i-preserved : goal.loop-i-preserved
+loop-i-preserved c =
+    some_next c.loop-i.invariant
+    c.loop-i-test.true _ c.if-e-app.false
+
+pub returns : goal.returns
+unfolding owned_by
+returns c = some-ends c.loop-i.invariant c.loop-i-test.false

@@ -1,0 +1,35 @@
+-- `take_grant` meets its contract: at each turn those that stay of the grants passed stand at the front.
+use Rattle.tables.proofs.Kit.{◌-◌, ◌≡◌, refl, eqb, eq-eqb, ne_eqb, not, ap, ◌∙◌, set, get_or, take, arith, rules}
+use Rattle.tables.proofs.Kit.{Bound, bound, grants-long}
+use Rattle.tables.proofs.Kit.{Squeezed, squeezed-begin, squeezed-keep, squeezed-skip, squeezed-ends}
+use Rattle.state.specs.declared.App.{App}
+use Rattle.tables.specs.Changing.{regrant, with_grants}
+use Rattle.tables.proofs.take_grant.Goals as goal
+use Rattle.tables.proofs.take_grant.Goals.{After-within-n}
+
+start : (c : After-within-n) → Bound c.args.app.grants
+    c.args.app.granted c.within-n.result
+start c = bound _ (grants-long c.args.app c.well_formed.0) c.within-n.ensures
+
+pub loop-i-init : goal.loop-i-init
+loop-i-init c = (refl, squeezed-begin (start (goal.at.loop-i-init c).After-within-n))
+
+pub loop-i-preserved-then-grant-member : goal.loop-i-preserved-then-grant-member
+loop-i-preserved-then-grant-member c =
+    let l = c.loop-i in
+    (l.invariant.0, squeezed-skip l.invariant.1 c.loop-i-test.true _ (ap not (eq-eqb _ _ c.if-grant-member.true)))
+
+pub loop-i-preserved : goal.loop-i-preserved
+loop-i-preserved c =
+    let l = c.loop-i in (
+      ap (λ (a : App). regrant a (set l.t.grants l.k (get_or l.t.grants l.i 0)) a.granted) l.invariant.0,
+      squeezed-keep l.invariant.1 c.loop-i-test.true 0 (ap not (ne_eqb _ _ c.if-grant-member.false)),
+    )
+
+pub returns : goal.returns
+returns c =
+    let l = c.loop-i in
+    let a = c.args.app in
+    c.cut_grants.ensures
+    ∙ ap (λ (x : App). with_grants x (take l.k l.t.grants)) l.invariant.0
+    ∙ ap (with_grants a) (squeezed-ends l.invariant.1 (start (goal.at.returns c).After-within-n) c.loop-i-test.false)
