@@ -11,7 +11,7 @@ use Rattle.state.specs.declared.App.{App}
 use Rattle.state.specs.declared.Device.{Device}
 
 pub uses-long : {vs : List Val} (a : App) → Is (row app-type.the_type) a vs → length a.uses ≡ 32
-uses-long a g = sym (length-map a.uses _) ∙ g.1.1.1.1.1.0.1.0.1
+uses-long a g = g.1.1.1.1.1.0.1.0.1
 
 pub device-long : {vs : List Val} (d : Device) → Is (row device-type.the_type) d vs → length d.apps.entries ≡ 16
-device-long d g = sym (length-map d.apps.entries _) ∙ g.1.1.0.1.1.0.1.0.1
+device-long d g = g.1.1.0.1.1.0.1.0.1

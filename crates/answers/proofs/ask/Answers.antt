@@ -1,0 +1,44 @@
+-- `ask` meets its contract: the tests come in the order of the refusals.
+use Rattle.answers.proofs.Kit.{ℕ, [], sym, ap, ◌∙◌, rules, view_by, refuses, passes, ends}
+use Rattle.rules.specs.declared.Ground.TheVariants.{Nothing}
+use Rattle.rules.specs.declared.Answer.TheVariants.{Done}
+use Rattle.rules.specs.Action.{bit, ask, query}
+use Rattle.rules.specs.Permissions.{known, hold, holds}
+use Rattle.rules.specs.Refusals.{refusals}
+use Rattle.rules.specs.Answer.{answer, ground_for, value_for}
+use Rattle.state.specs.Tables.{view_of}
+use Rattle.state.specs.Stored.{model_of}
+use Rattle.answers.specs.AnsweringLaws.{Passed}
+use Rattle.answers.proofs.ask.Goals as goal
+use Rattle.answers.proofs.ask.Goals.{Else-no_app, Else-undefined, Start}
+
+-- the first k tests are passed
+Past : ℕ → Start → Type 0
+unfolding answer refusals ground_for value_for known holds hold view_by view_of model_of
+Past k c = Passed k c.args.d [] (query (ask c.args.app c.args.permission))
+
+pub returns-then-no_app : goal.returns-then-no_app
+unfolding Past
+returns-then-no_app c = refuses _ _ _ c.no_app.ensures c.if-no_app.true
+
+past-1 : (c : Else-no_app) → Past 1 (search)
+unfolding Past
+past-1 c = passes _ _ _ c.no_app.ensures c.if-no_app.false
+
+pub returns-then-undefined : goal.returns-then-undefined
+unfolding Past
+returns-then-undefined c = refuses _ _ _ c.undefined.ensures c.if-undefined.true ∙ past-1 (goal.at.returns-then-undefined c).Else-no_app
+
+past-2 : (c : Else-undefined) → Past 2 (search)
+unfolding Past
+past-2 c = passes _ _ _ c.undefined.ensures c.if-undefined.false ∙ past-1 (search)
+
+pub returns-then-held_by : goal.returns-then-held_by
+unfolding Past
+returns-then-held_by c =
+    ap (λ t. Done Nothing (bit t)) (sym c.if-held_by.true ∙ c.held_by.ensures) ∙ ends ∙ past-2 (goal.at.returns-then-held_by c).Else-undefined
+
+pub returns : goal.returns
+unfolding Past
+returns c =
+    ap (λ t. Done Nothing (bit t)) (sym c.if-held_by.false ∙ c.held_by.ensures) ∙ ends ∙ past-2 (goal.at.returns c).Else-undefined

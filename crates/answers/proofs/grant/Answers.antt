@@ -1,0 +1,48 @@
+-- `grant` meets its contract: the tests come in the order of the refusals.
+use Rattle.answers.proofs.Kit.{ℕ, [], ◌∙◌, rules, view_by, refuses, passes, ends}
+use Rattle.rules.specs.Action.{grant, on_grants}
+use Rattle.rules.specs.Permissions.{known}
+use Rattle.rules.specs.Refusals.{refusals}
+use Rattle.rules.specs.Answer.{answer, ground_for, value_for}
+use Rattle.state.specs.Tables.{view_of}
+use Rattle.state.specs.Stored.{model_of}
+use Rattle.answers.specs.AnsweringLaws.{Passed}
+use Rattle.answers.proofs.grant.Goals as goal
+use Rattle.answers.proofs.grant.Goals.{Else-granted, Else-no_app, Else-undefined, Start}
+
+-- the first k tests are passed
+Past : ℕ → Start → Type 0
+unfolding answer refusals ground_for value_for known view_by view_of model_of
+Past k c = Passed k c.args.d [] (on_grants (grant c.args.app c.args.permission))
+
+pub returns-then-granted : goal.returns-then-granted
+unfolding Past
+returns-then-granted c = refuses _ _ _ c.granted.ensures c.if-granted.true
+
+past-1 : (c : Else-granted) → Past 1 (search)
+unfolding Past
+past-1 c = passes _ _ _ c.granted.ensures c.if-granted.false
+
+pub returns-then-no_app : goal.returns-then-no_app
+unfolding Past
+returns-then-no_app c = refuses _ _ _ c.no_app.ensures c.if-no_app.true ∙ past-1 (goal.at.returns-then-no_app c).Else-granted
+
+past-2 : (c : Else-no_app) → Past 2 (search)
+unfolding Past
+past-2 c = passes _ _ _ c.no_app.ensures c.if-no_app.false ∙ past-1 (search)
+
+pub returns-then-undefined : goal.returns-then-undefined
+unfolding Past
+returns-then-undefined c = refuses _ _ _ c.undefined.ensures c.if-undefined.true ∙ past-2 (goal.at.returns-then-undefined c).Else-no_app
+
+past-3 : (c : Else-undefined) → Past 3 (search)
+unfolding Past
+past-3 c = passes _ _ _ c.undefined.ensures c.if-undefined.false ∙ past-2 (search)
+
+pub returns-then-not_grantable : goal.returns-then-not_grantable
+unfolding Past
+returns-then-not_grantable c = refuses _ _ _ c.not_grantable.ensures c.if-not_grantable.true ∙ past-3 (goal.at.returns-then-not_grantable c).Else-undefined
+
+pub returns : goal.returns
+unfolding Past
+returns c = ends ∙ passes _ _ _ c.not_grantable.ensures c.if-not_grantable.false ∙ past-3 (goal.at.returns c).Else-undefined

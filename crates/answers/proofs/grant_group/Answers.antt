@@ -1,0 +1,48 @@
+-- `grant_group` meets its contract: the tests come in the order of the refusals.
+use Rattle.answers.proofs.Kit.{ℕ, [], ◌∙◌, rules, view_by, refuses, passes, ends}
+use Rattle.rules.specs.Action.{grant_group, on_grants}
+use Rattle.rules.specs.Permissions.{known}
+use Rattle.rules.specs.Refusals.{groupable, refusals}
+use Rattle.rules.specs.Answer.{answer, ground_for, value_for}
+use Rattle.state.specs.Tables.{view_of}
+use Rattle.state.specs.Stored.{model_of}
+use Rattle.answers.specs.AnsweringLaws.{Passed}
+use Rattle.answers.proofs.grant_group.Goals as goal
+use Rattle.answers.proofs.grant_group.Goals.{Else-grouped, Else-no_app, Else-no_group, Start}
+
+-- the first k tests are passed
+Past : ℕ → Start → Type 0
+unfolding answer refusals ground_for value_for groupable known view_by view_of model_of
+Past k c = Passed k c.args.d [] (on_grants (grant_group c.args.app c.args.group))
+
+pub returns-then-grouped : goal.returns-then-grouped
+unfolding Past
+returns-then-grouped c = refuses _ _ _ c.grouped.ensures c.if-grouped.true
+
+past-1 : (c : Else-grouped) → Past 1 (search)
+unfolding Past
+past-1 c = passes _ _ _ c.grouped.ensures c.if-grouped.false
+
+pub returns-then-no_app : goal.returns-then-no_app
+unfolding Past
+returns-then-no_app c = refuses _ _ _ c.no_app.ensures c.if-no_app.true ∙ past-1 (goal.at.returns-then-no_app c).Else-grouped
+
+past-2 : (c : Else-no_app) → Past 2 (search)
+unfolding Past
+past-2 c = passes _ _ _ c.no_app.ensures c.if-no_app.false ∙ past-1 (search)
+
+pub returns-then-no_group : goal.returns-then-no_group
+unfolding Past
+returns-then-no_group c = refuses _ _ _ c.no_group.ensures c.if-no_group.true ∙ past-2 (goal.at.returns-then-no_group c).Else-no_app
+
+past-3 : (c : Else-no_group) → Past 3 (search)
+unfolding Past
+past-3 c = passes _ _ _ c.no_group.ensures c.if-no_group.false ∙ past-2 (search)
+
+pub returns-then-not_groupable : goal.returns-then-not_groupable
+unfolding Past
+returns-then-not_groupable c = refuses _ _ _ c.not_groupable.ensures c.if-not_groupable.true ∙ past-3 (goal.at.returns-then-not_groupable c).Else-no_group
+
+pub returns : goal.returns
+unfolding Past
+returns c = ends ∙ passes _ _ _ c.not_groupable.ensures c.if-not_groupable.false ∙ past-3 (goal.at.returns c).Else-no_group

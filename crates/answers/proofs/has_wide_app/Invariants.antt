@@ -1,0 +1,10 @@
+-- `has_wide_app` meets its contract: at each turn the whole answer is the answer for the apps that are left.
+use Rattle.answers.proofs.Kit.{◌-◌, sym, ◌∙◌, arith, rules, any, eq-eqb, ne_eqb, apps-long, bound, apps_in, is_app}
+use Rattle.answers.proofs.Kit.{Some, some-begin, some_next, some-hits, some-ends}
+use Rattle.answers.proofs.has_wide_app.Given as goal
+
+abbrev pub invariant-loop-i : goal.invariant-loop-i
+invariant-loop-i l = Some (is_app l.number) l.apps.entries l.n (any (is_app l.number) (apps_in l.apps)) l.i
+
+abbrev pub decreases-loop-i : goal.decreases-loop-i
+decreases-loop-i l = l.n - l.i

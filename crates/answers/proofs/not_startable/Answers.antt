@@ -1,0 +1,11 @@
+-- `not_startable` meets its contract: the search tells whether there is one.
+use Rattle.answers.proofs.Kit.{sym, ◌∙◌, rules}
+use Rattle.answers.specs.GroundsLaws.{installed-found, installed-none, gone, there}
+use Rattle.answers.proofs.not_startable.Goals as goal
+
+pub returns-in-Found : goal.returns-in-Found
+returns-in-Found c =
+    sym (there (installed-found _ _ (sym c.find_startable-part.ensures ∙ c.in-Found.is)))
+
+pub returns-in-Missing : goal.returns-in-Missing
+returns-in-Missing c = sym (gone (installed-none _ (sym c.find_startable-part.ensures ∙ c.in-Missing.is)))
