@@ -12,7 +12,7 @@ use Rattle.rules.specs.declared.Loan.{Loan}
 use Rattle.loans.specs.declared.Loans.{Loans}
 
 pub loans-long : {vs : List Val} (t : Loans) → Is (row loans-type.the_type) t vs → length t.entries ≡ 128
-loans-long t g = sym (length-map t.entries _) ∙ g.1.1.0.1.0.1
+loans-long t g = g.1.1.0.1.0.1
 
 pub table-long : {vs : List Val} (t : List Loan) → Is (Array (row loan-type.the_type) 128) t vs → length t ≡ 128
 table-long t g = g.1.0.1

@@ -481,7 +481,8 @@ pub fn copy_out(lent: &[Loan]) -> Lent
     let mut i: usize = 0;
     while i < n {
         let x = lent[i];
-        table = put(table, i, x);
+        let next = put(table, i, x);
+        table = next;
         i += 1;
     }
     as_lent(table, length)

@@ -1,0 +1,20 @@
+-- `after_change` meets its contract: at each turn the records passed, from the last on, are the same.
+use Rattle.loans.proofs.Kit.{sym, ◌∙◌, arith, rules, table-long}
+use Rattle.loans.specs.ChangeLaws.{Behind, behind-begin, behind-next, behind-differs, behind-ends}
+use Rattle.loans.proofs.after_change.Goals as goal
+
+pub loop-i-init : goal.loop-i-init
+loop-i-init c = behind-begin (table-long c.args.old c.well_formed.0) (table-long c.args.new c.well_formed.1.0)
+
+pub loop-i-preserved : goal.loop-i-preserved
+loop-i-preserved c =
+    behind-next c.loop-i.invariant
+    c.loop-i-test.true _ (sym c.same_loan.ensures ∙ c.if-same_loan.true)
+
+pub returns-else-same_loan : goal.returns-else-same_loan
+returns-else-same_loan c =
+    behind-differs c.loop-i.invariant
+    c.loop-i-test.true _ (sym c.same_loan.ensures ∙ c.if-same_loan.false)
+
+pub returns : goal.returns
+returns c = behind-ends c.loop-i.invariant c.loop-i-test.false

@@ -1,0 +1,10 @@
+-- `after_change` meets its contract: at each turn the records passed, from the last on, are the same.
+use Rattle.loans.proofs.Kit.{sym, ◌∙◌, arith, rules, table-long}
+use Rattle.loans.specs.ChangeLaws.{Behind, behind-begin, behind-next, behind-differs, behind-ends}
+use Rattle.loans.proofs.after_change.Given as goal
+
+abbrev pub invariant-loop-i : goal.invariant-loop-i
+invariant-loop-i l = Behind l.old l.new 128 l.i
+
+abbrev pub decreases-loop-i : goal.decreases-loop-i
+decreases-loop-i l = l.i

@@ -1,0 +1,12 @@
+-- `kind_of` meets its contract: each receiver has its kind.
+use Rattle.loans.proofs.Kit.{rules}
+use Rattle.rules.specs.Action.{receiver_kind}
+use Rattle.loans.proofs.kind_of.Goals as goal
+
+pub returns-in-Instance : goal.returns-in-Instance
+unfolding receiver_kind
+returns-in-Instance c = rw c.in-Instance.is
+
+pub returns-in-App : goal.returns-in-App
+unfolding receiver_kind
+returns-in-App c = rw c.in-App.is

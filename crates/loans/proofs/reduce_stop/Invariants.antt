@@ -1,0 +1,12 @@
+-- `reduce_stop` meets its contract: at each turn what is left of the loans passed stands at the front.
+use Rattle.loans.proofs.Kit.{sym, ap, ◌∙◌, ◌-◌, arith, rules, Bound, bound, loans-long}
+use Rattle.loans.proofs.Kit.{Compacted, compacted-begin, compacted-keep, compacted-skip, compacted-ends}
+use Rattle.state.specs.Effects.{kept, carries_any, reduce}
+use Rattle.loans.specs.Held.{loans_table, keeps_stop}
+use Rattle.loans.proofs.reduce_stop.Given as goal
+
+abbrev pub invariant-loop-i : goal.invariant-loop-i
+invariant-loop-i l = Compacted carries_any (kept (keeps_stop l.instance)) l.initial.t.entries l.n l.i l.k l.t.entries
+
+abbrev pub decreases-loop-i : goal.decreases-loop-i
+decreases-loop-i l = l.n - l.i

@@ -1,0 +1,13 @@
+-- `reduce_uninstall` meets its contract: at each turn what is left of the loans passed stands at the front.
+use Rattle.loans.proofs.Kit.{sym, ap, ◌∙◌, ◌-◌, arith, rules, Bound, bound, loans-long}
+use Rattle.loans.proofs.Kit.{Compacted, compacted-begin, compacted-keep, compacted-skip, compacted-ends}
+use Rattle.state.specs.Effects.{kept, carries_any, reduce}
+use Rattle.tables.specs.Held.{parts_in}
+use Rattle.loans.specs.Held.{loans_table, keeps_uninstall}
+use Rattle.loans.proofs.reduce_uninstall.Given as goal
+
+abbrev pub invariant-loop-i : goal.invariant-loop-i
+invariant-loop-i l = Compacted carries_any (kept (keeps_uninstall (parts_in l.parts) l.app)) l.initial.t.entries l.n l.i l.k l.t.entries
+
+abbrev pub decreases-loop-i : goal.decreases-loop-i
+decreases-loop-i l = l.n - l.i

@@ -1,0 +1,71 @@
+-- `well_formed` meets its contract: each code has the test of its row.
+use Rattle.std.proofs.Common.{arith}
+use Rattle.loans.proofs.Kit.{sym}
+use Rattle.rules.specs.Lists.{find, test}
+use Rattle.rules.specs.ListsLaws.{and-true}
+use Rattle.rules.specs.Action.{is_operations}
+use Rattle.rules.specs.Record.{forms, fitting, fits}
+use Rattle.loans.specs.Asked.{well_formed}
+use Rattle.loans.specs.AskedLaws.{outside, not-well-formed}
+use Rattle.loans.proofs.well_formed.Goals as goal
+
+pub returns-in-1 : goal.returns-in-1
+unfolding well_formed test find forms fitting fits is_operations
+returns-in-1 c = rw c.in-1.is
+
+pub returns-in-2 : goal.returns-in-2
+unfolding well_formed test find forms fitting fits is_operations
+returns-in-2 c = rw c.in-2.is
+
+pub returns-in-3 : goal.returns-in-3
+unfolding well_formed test find forms fitting fits is_operations
+returns-in-3 c = rw c.in-3.is
+
+pub returns-in-4 : goal.returns-in-4
+unfolding well_formed test find forms fitting fits is_operations
+returns-in-4 c = rw c.in-4.is
+
+pub returns-in-5 : goal.returns-in-5
+unfolding well_formed test find forms fitting fits is_operations
+returns-in-5 c = rw c.in-5.is
+
+pub returns-in-6 : goal.returns-in-6
+unfolding well_formed test find forms fitting fits is_operations
+returns-in-6 c = rw c.in-6.is
+
+pub returns-in-7 : goal.returns-in-7
+unfolding well_formed test find forms fitting fits is_operations
+returns-in-7 c = rw c.in-7.is
+
+pub returns-in-8 : goal.returns-in-8
+unfolding well_formed test find forms fitting fits is_operations
+returns-in-8 c = rw c.in-8.is
+
+pub returns-in-9 : goal.returns-in-9
+unfolding well_formed test find forms fitting fits is_operations
+returns-in-9 c = rw c.in-9.is
+
+pub returns-in-10 : goal.returns-in-10
+unfolding well_formed test find forms fitting fits is_operations
+returns-in-10 c = rw (c.in-10.is, and-true)
+
+pub returns-in-11 : goal.returns-in-11
+unfolding well_formed test find forms fitting fits is_operations
+returns-in-11 c = rw (c.in-11.is, and-true)
+
+pub returns-in-12 : goal.returns-in-12
+unfolding well_formed test find forms fitting fits is_operations
+returns-in-12 c = rw (c.in-12.is, and-true)
+
+pub returns-in-13 : goal.returns-in-13
+unfolding well_formed test find forms fitting fits is_operations
+returns-in-13 c = rw c.in-13.is
+
+pub returns-in-14 : goal.returns-in-14
+unfolding well_formed test find forms fitting fits is_operations
+returns-in-14 c = rw c.in-14.is
+
+pub returns-in_default : goal.returns-in_default
+returns-in_default c =
+    sym (not-well-formed c.args.r
+    (λ low high. omega arith))
