@@ -1,0 +1,25 @@
+-- The inner loop looks for an entry again among those after it; the outer one goes on where there is none.
+use Rattle.state.specs.Valid.{same_app}
+use Rattle.state.specs.Stored.{row_of}
+use Rattle.rules.specs.ListsLaws.{distinct-image}
+use Rattle.device.proofs.Kit.{◌+◌, ◌-◌, ◌≡◌, ◌∙◌, sym, arith, length, length-map, slice, take, any, distinct}
+use Rattle.device.proofs.Kit.{eq-eqb, ne_eqb}
+use Rattle.device.proofs.Kit.{Some, some-from, some_next, some-hits, some-ends}
+use Rattle.device.proofs.Kit.{Pairs, pairs-from, pairs_next, pairs-fails, pairs-ends}
+use Rattle.device.proofs.apps_distinct.Given as goal
+
+abbrev pub invariant-loop-j : goal.invariant-loop-j
+invariant-loop-j l =
+    Some (λ y. same_app (row_of l.e) (row_of y)) l.t.entries l.n
+    (any (λ y. same_app (row_of l.e) (row_of y)) (slice (l.i + 1) l.n l.t.entries)) l.j
+
+abbrev pub decreases-loop-j : goal.decreases-loop-j
+decreases-loop-j l = l.n - l.j
+
+abbrev pub invariant-loop-i : goal.invariant-loop-i
+invariant-loop-i l =
+    Pairs (λ x y. same_app (row_of x) (row_of y)) l.t.entries l.n
+    (distinct (λ x y. same_app (row_of x) (row_of y)) (take l.n l.t.entries)) l.i
+
+abbrev pub decreases-loop-i : goal.decreases-loop-i
+decreases-loop-i l = l.n - l.i

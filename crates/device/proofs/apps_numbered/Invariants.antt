@@ -1,0 +1,15 @@
+-- The loop tests every number up to the count, or finds one that is zero.
+use Rattle.state.specs.Tables.{app_number}
+use Rattle.state.specs.Stored.{row_of}
+use Rattle.rules.specs.ListsLaws.{all_map}
+use Rattle.device.proofs.Kit.{◌≡◌, ◌∙◌, sym, ◌-◌, arith, length, length-map, take, all, ltb, lt-ltb, le-ltb}
+use Rattle.device.proofs.Kit.{Each, each_from, each_next, each-fails, each-ends}
+use Rattle.device.proofs.apps_numbered.Given as goal
+
+abbrev pub invariant-loop-i : goal.invariant-loop-i
+invariant-loop-i l =
+    Each (λ e. ltb 0 (app_number (row_of e))) l.t.entries l.n
+    (all (λ e. ltb 0 (app_number (row_of e))) (take l.n l.t.entries)) l.i
+
+abbrev pub decreases-loop-i : goal.decreases-loop-i
+decreases-loop-i l = l.n - l.i

@@ -1,0 +1,14 @@
+-- The loop fills the array from the front with what is asked of each permission.
+use Rattle.state.specs.Stored.{padded}
+use Rattle.tables.specs.Held.{rows_in, definitions_in}
+use Rattle.device.specs.Tests.{is_dangerous, numbers_from}
+use Rattle.device.specs.PartLaws.{Filled, filled-begin, filled_next}
+use Rattle.device.specs.GrantLaws.{number_at}
+use Rattle.device.proofs.Kit.{ℕ, ◌-◌, ◌≡◌, ◌∙◌, sym, ap, map, take, false, arith, rules}
+use Rattle.device.proofs.dangerous_in.Given as goal
+
+abbrev pub invariant-loop-p : goal.invariant-loop-p
+invariant-loop-p l = Filled (is_dangerous (rows_in l.apps) (definitions_in l.definitions)) false 64 (numbers_from 0 64) 64 l.p l.dangerous
+
+abbrev pub decreases-loop-p : goal.decreases-loop-p
+decreases-loop-p l = 64 - l.p

@@ -1,0 +1,36 @@
+-- The inner loop looks for an entry again among those after it; the outer one goes on where there is none.
+use Rattle.state.specs.Valid.{same_loan}
+use Rattle.device.proofs.Kit.{◌+◌, ◌-◌, ◌≡◌, ◌∙◌, sym, arith, rules, length, slice, take, any, distinct}
+use Rattle.device.proofs.Kit.{Some, some-from, some_next, some-hits, some-ends}
+use Rattle.device.proofs.Kit.{Pairs, pairs-from, pairs_next, pairs-fails, pairs-ends}
+use Rattle.device.proofs.loans_distinct.Goals as goal
+use Rattle.device.proofs.loans_distinct.Goals.{Start}
+
+long : (c : Start) → length c.args.lent ≡ 128
+long c = c.well_formed.0.1.0.1
+
+pub loop-i-init : goal.loop-i-init
+loop-i-init c = pairs-from (omega (arith, long (goal.at.loop-i-init c).Start))
+
+pub loop-j-init : goal.loop-j-init
+loop-j-init c =
+    some-from _ (omega (arith, long (goal.at.loop-j-init c).Start)) (omega arith)
+
+pub returns-then-same_loan : goal.returns-then-same_loan
+returns-then-same_loan c =
+    pairs-fails c.loop-i.invariant c.loop-i-test.true _
+    (sym (some-hits c.loop-j.invariant c.loop-j-test.true _
+    (sym c.same_loan.ensures ∙ c.if-same_loan.true)))
+
+pub loop-j-preserved : goal.loop-j-preserved
+loop-j-preserved c =
+    some_next c.loop-j.invariant c.loop-j-test.true _
+    (sym c.same_loan.ensures ∙ c.if-same_loan.false)
+
+pub loop-i-preserved : goal.loop-i-preserved
+loop-i-preserved c =
+    pairs_next c.loop-i.invariant c.loop-i-test.true _
+    (sym (some-ends c.loop-j.invariant c.loop-j-test.false))
+
+pub returns : goal.returns
+returns c = pairs-ends c.loop-i.invariant c.loop-i-test.false

@@ -1,0 +1,33 @@
+-- The tests are made in the order of the definition, and the first that fails answers.
+use Rattle.device.proofs.Kit.{◌∙◌, rules, Holds, holds, fails}
+use Rattle.device.proofs.numbers_good.Goals as goal
+use Rattle.device.proofs.numbers_good.Goals.{Else-not-apps_distinct, Else-not-apps_numbered, Else-not-parts_distinct, Else-not-parts_numbered}
+
+apps : (c : Else-not-apps_distinct) → Holds c.apps_distinct.ensures
+apps c = holds c.apps_distinct.ensures c.if-not-apps_distinct.false-raw
+
+app-numbers : (c : Else-not-apps_numbered) → Holds c.apps_numbered.ensures
+app-numbers c = holds c.apps_numbered.ensures c.if-not-apps_numbered.false-raw
+
+parts : (c : Else-not-parts_distinct) → Holds c.parts_distinct.ensures
+parts c = holds c.parts_distinct.ensures c.if-not-parts_distinct.false-raw
+
+part-numbers : (c : Else-not-parts_numbered) → Holds c.parts_numbered.ensures
+part-numbers c = holds c.parts_numbered.ensures c.if-not-parts_numbered.false-raw
+
+pub returns-then-not-apps_distinct : goal.returns-then-not-apps_distinct
+returns-then-not-apps_distinct c = rw (fails c.apps_distinct.ensures c.if-not-apps_distinct.true-raw)
+
+pub returns-then-not-apps_numbered : goal.returns-then-not-apps_numbered
+returns-then-not-apps_numbered c = rw (apps (goal.at.returns-then-not-apps_numbered c).Else-not-apps_distinct, fails c.apps_numbered.ensures c.if-not-apps_numbered.true-raw)
+
+pub returns-then-not-parts_distinct : goal.returns-then-not-parts_distinct
+returns-then-not-parts_distinct c = rw (apps (goal.at.returns-then-not-parts_distinct c).Else-not-apps_distinct, app-numbers (goal.at.returns-then-not-parts_distinct c).Else-not-apps_numbered, fails c.parts_distinct.ensures c.if-not-parts_distinct.true-raw)
+
+pub returns-then-not-parts_numbered : goal.returns-then-not-parts_numbered
+returns-then-not-parts_numbered c =
+    rw (apps (goal.at.returns-then-not-parts_numbered c).Else-not-apps_distinct, app-numbers (goal.at.returns-then-not-parts_numbered c).Else-not-apps_numbered, parts (goal.at.returns-then-not-parts_numbered c).Else-not-parts_distinct, fails c.parts_numbered.ensures c.if-not-parts_numbered.true-raw)
+
+pub returns : goal.returns
+returns c =
+    c.resources_distinct.ensures ∙ rw (apps (goal.at.returns c).Else-not-apps_distinct, app-numbers (goal.at.returns c).Else-not-apps_numbered, parts (goal.at.returns c).Else-not-parts_distinct, part-numbers (goal.at.returns c).Else-not-parts_numbered)

@@ -1,0 +1,21 @@
+-- The inner loop looks for an entry again among those after it; the outer one goes on where there is none.
+use Rattle.state.specs.Valid.{same_part}
+use Rattle.device.proofs.Kit.{◌+◌, ◌-◌, ◌≡◌, ◌∙◌, sym, arith, length, length-map, slice, take, any, distinct}
+use Rattle.device.proofs.Kit.{eqb, eq-eqb, ne_eqb}
+use Rattle.device.proofs.Kit.{Some, some-from, some_next, some-hits, some-ends}
+use Rattle.device.proofs.Kit.{Pairs, pairs-from, pairs_next, pairs-fails, pairs-ends}
+use Rattle.device.proofs.parts_distinct.Given as goal
+
+abbrev pub invariant-loop-j : goal.invariant-loop-j
+invariant-loop-j l =
+    Some (λ f. eqb l.c.number f.component.number) l.t.entries l.n
+    (any (λ f. eqb l.c.number f.component.number) (slice (l.i + 1) l.n l.t.entries)) l.j
+
+abbrev pub decreases-loop-j : goal.decreases-loop-j
+decreases-loop-j l = l.n - l.j
+
+abbrev pub invariant-loop-i : goal.invariant-loop-i
+invariant-loop-i l = Pairs same_part l.t.entries l.n (distinct same_part (take l.n l.t.entries)) l.i
+
+abbrev pub decreases-loop-i : goal.decreases-loop-i
+decreases-loop-i l = l.n - l.i

@@ -1,0 +1,14 @@
+-- The loop finds the app of every component up to the count, or one whose app is not installed.
+use Rattle.state.specs.Valid.{is_installed}
+use Rattle.tables.specs.Held.{rows_in}
+use Rattle.device.proofs.Kit.{◌≡◌, ◌∙◌, sym, ◌-◌, arith, rules, length, length-map, take, all, Each, each_from}
+use Rattle.device.proofs.Kit.{each_next, each-fails, each-ends}
+use Rattle.device.proofs.parts_owned.Given as goal
+
+abbrev pub invariant-loop-i : goal.invariant-loop-i
+invariant-loop-i l =
+    Each (λ e. is_installed (rows_in l.apps) e.app) l.t.entries l.n
+    (all (λ e. is_installed (rows_in l.apps) e.app) (take l.n l.t.entries)) l.i
+
+abbrev pub decreases-loop-i : goal.decreases-loop-i
+decreases-loop-i l = l.n - l.i

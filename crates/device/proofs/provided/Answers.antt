@@ -1,0 +1,6 @@
+-- The part found is the component of the provider's number.
+use Rattle.device.proofs.Kit.{rules}
+use Rattle.device.proofs.provided.Goals as goal
+
+pub returns : goal.returns
+returns c = rw c.part_at-k.ensures

@@ -1,0 +1,6 @@
+-- The parts of the test are those of the definition.
+use Rattle.device.proofs.Kit.{rules}
+use Rattle.device.proofs.zero_app.Goals as goal
+
+pub returns : goal.returns
+returns c = rw c.app_padded.ensures
