@@ -1,4 +1,2 @@
 pub mod Sizes
 pub mod Kit
-pub mod Walk
-pub mod Again

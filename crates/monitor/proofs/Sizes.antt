@@ -25,14 +25,14 @@ use Rattle.monitor.specs.StepLaws.{Kept, stored-kept}
 app-size : (a : App) (vs : List Val) → Is (row app-type.the_type) a vs → is_sized a ≡ true
 unfolding is_sized
 app-size a vs g =
-    both (eq-eqb (length a.uses) 32 (sym (length-map a.uses _) ∙ g.1.1.1.1.1.0.1.0.1))
-    (both (eq-eqb (length a.grants) 32 (sym (length-map a.grants _) ∙ g.1.1.1.1.1.1.1.0.1.0.1))
-    (eq-eqb (length a.groups) 15 (sym (length-map a.groups _) ∙ g.1.1.1.1.1.1.1.1.1.0.1.0.1)))
+    both (eq-eqb (length a.uses) 32 (g.1.1.1.1.1.0.1.0.1))
+    (both (eq-eqb (length a.grants) 32 (g.1.1.1.1.1.1.1.0.1.0.1))
+    (eq-eqb (length a.groups) 15 (g.1.1.1.1.1.1.1.1.1.0.1.0.1)))
 
 -- what each owned app passes, each of an array of apps does
 each_app : (f : App → Bool) → ((a : App) (vs : List Val) → Is (row app-type.the_type) a vs → f a ≡ true)
     → (l : List App) (us : List Val)
-    → shadow (each _ (field app-type.the_type).row.own_val (map (field app-type.the_type).into l) us) → all f l ≡ true
+    → shadow (each _ app-type.the_row.own_val l us) → all f l ≡ true
 unfolding all
 each_app f h [] us g = refl
 each_app f h (a ∷ l) [] g = absurd g
@@ -41,12 +41,12 @@ each_app f h (a ∷ l) (u ∷ us) g = both (h a (u ∷ []) g.0) (each_app f h l 
 pub sizes : (d : Device) {vs : List Val} → Is (row device-type.the_type) d vs → Sized d
 sizes d g =
     record {
-      apps = sym (length-map d.apps.entries _) ∙ g.1.1.0.1.1.0.1.0.1;
+      apps = g.1.1.0.1.1.0.1.0.1;
       lists = each_app is_sized app-size d.apps.entries _ g.1.1.0.1.1.0.1.1;
-      definitions = sym (length-map d.definitions.entries _) ∙ g.1.1.1.0.1.1.0.1.0.1;
-      parts = sym (length-map d.parts.entries _) ∙ g.1.1.1.1.0.1.1.0.1.0.1;
-      resources = sym (length-map d.resources.entries _) ∙ g.1.1.1.1.1.0.1.1.0.1.0.1;
-      instances = sym (length-map d.instances.entries _) ∙ g.1.1.1.1.1.1.0.1.1.0.1.0.1;
+      definitions = g.1.1.1.0.1.1.0.1.0.1;
+      parts = g.1.1.1.1.0.1.1.0.1.0.1;
+      resources = g.1.1.1.1.1.0.1.1.0.1.0.1;
+      instances = g.1.1.1.1.1.1.0.1.1.0.1.0.1;
     }
 
 -- a valid device that is owned

@@ -1,0 +1,12 @@
+-- `fits` meets its contract by the two cases of a receiver.
+use Rattle.monitor.proofs.Kit.{rules}
+use Rattle.rules.specs.Action.{receiver_number}
+use Rattle.monitor.proofs.fits.Goals as goal
+
+pub returns-in-Instance : goal.returns-in-Instance
+unfolding receiver_number
+returns-in-Instance c = rw c.in-Instance.is
+
+pub returns-in-App : goal.returns-in-App
+unfolding receiver_number
+returns-in-App c = rw c.in-App.is

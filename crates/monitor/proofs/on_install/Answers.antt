@@ -1,0 +1,7 @@
+-- `on_install` meets its contract: the answer asks of no loan, and the step follows it.
+use Rattle.monitor.proofs.Kit.{◌∙◌, rules, apps-unasked}
+use Rattle.monitor.proofs.on_install.Goals as goal
+
+pub after_install-requires : goal.after_install-requires
+after_install-requires c =
+    record { lent_value = c.requires; answer_value = c.install-answer.ensures ∙ apps-unasked c.args.d c.args.lent _ }

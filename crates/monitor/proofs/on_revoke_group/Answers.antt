@@ -1,0 +1,7 @@
+-- `on_revoke_group` meets its contract: the answer asks of no loan, and the step follows it.
+use Rattle.monitor.proofs.Kit.{◌∙◌, rules, grants-unasked}
+use Rattle.monitor.proofs.on_revoke_group.Goals as goal
+
+pub after_change-requires : goal.after_change-requires
+after_change-requires c =
+    record { lent_value = c.requires; answer_value = c.revoke_group-answer.ensures ∙ grants-unasked c.args.d c.args.lent _ }

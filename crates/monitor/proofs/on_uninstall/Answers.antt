@@ -1,0 +1,7 @@
+-- `on_uninstall` meets its contract: the answer asks of no loan, and the step follows it.
+use Rattle.monitor.proofs.Kit.{◌∙◌, rules, apps-unasked}
+use Rattle.monitor.proofs.on_uninstall.Goals as goal
+
+pub after_uninstall-requires : goal.after_uninstall-requires
+after_uninstall-requires c =
+    record { lent_value = c.requires; answer_value = c.uninstall-answer.ensures ∙ apps-unasked c.args.d c.args.lent _ }

@@ -1,0 +1,7 @@
+-- `on_withdraw` meets its contract: the answer asks of no loan, and the step follows it.
+use Rattle.monitor.proofs.Kit.{◌∙◌, rules, withdraw-unasked}
+use Rattle.monitor.proofs.on_withdraw.Goals as goal
+
+pub after_withdraw-requires : goal.after_withdraw-requires
+after_withdraw-requires c =
+    record { lent_value = c.requires; answer_value = c.withdraw-answer.ensures ∙ withdraw-unasked c.args.d c.args.lent _ _ _ _ }
