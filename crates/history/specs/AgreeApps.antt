@@ -200,6 +200,17 @@ module _ (rs : List Row) (ds : List Definition) (definers : all (λ d. is_instal
           absurd (clashing {t = is_some (defined_in (apps_of rs) ds p)}
           (unfold is_some bind defined_in in rw (e, known-found d (found p d e))) z)
 
+or_some : (a b : Option Known) → is_some b ≡ true → is_some (or_find a b) ≡ true
+unfolding or_find is_some
+or_some none b h = h
+or_some (some x) b h = refl
+
+-- what an app defines is known
+known-defined : (s : State) (p : ℕ) → is_some (defined_in (apps_of s.rows) s.definitions p) ≡ true
+    → is_some (known (view_of s) p) ≡ true
+unfolding known view_of
+known-defined s p h = or_some (built_in p) (defined_in (apps_of s.rows) s.definitions p) h
+
 pub defined-step : (L : Limits) (s : State) (x : Action) (g : Ground) (v : ℕ) → answer L (view_of s) x ≡ Done g v
     → Ok L s → (p : ℕ)
     → defined_in (apps_of (apps_after s.definitions s.rows x)) (definitions_after s.definitions x) p
@@ -208,16 +219,12 @@ defined-step L s x g v e ok p =
     ap (λ (apps : List App). defined_in apps (definitions_after s.definitions x) p)
     (apps-after s.definitions s.rows x) ∙ go x e
   where
-    or_some : (a b : Option Known) → is_some b ≡ true → is_some (or_find a b) ≡ true
-    or_some none b h = unfold or_find in h
-    or_some (some x) b h = unfold or_find is_some in refl
-
     by_app : Define → Bool
     by_app d = is_some (defined_in (apps_of s.rows) s.definitions d.permission)
 
     -- what an app defines is known
     is_known : (d : Define) → by_app d ≡ true → is_some (known (view_of s) d.permission) ≡ true
-    is_known d h = unfold known view_of in or_some (built_in d.permission) _ h
+    is_known d h = known-defined s d.permission h
 
     go : (x : Action) → answer L (view_of s) x ≡ Done g v
         → defined_in (installed_after (apps_of s.rows) x) (definitions_after s.definitions x) p

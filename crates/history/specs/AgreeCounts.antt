@@ -155,6 +155,19 @@ module _ (ks : List Part) (rs : List Resource) (newer : List Past) where
   abbrev stands : Part → Bool
   stands k = stays uninstalls newer k.app
 
+  -- a component that is there is found also among more of them
+  stands-still : (more : List Part) (p : ℕ) → any (λ k. eqb k.component.number p) ks ≡ true
+      → test (part_at (ks ++ more) p) stands ≡ test (part_at ks p) stands
+  unfolding part_at or_find
+  stands-still more p h =
+      ap (λ (o : Option Part). test o stands) (find-append (λ k. eqb k.component.number p) ks more)
+      ∙ found (find (λ k. eqb k.component.number p) ks) refl
+    where
+      found : (o : Option Part) → find (λ k. eqb k.component.number p) ks ≡ o
+          → test (or_find o (find (λ k. eqb k.component.number p) more)) stands ≡ test o stands
+      found none e = absurd (clashing h (none_any (λ k. eqb k.component.number p) ks e))
+      found (some k) e = refl
+
   resources-install : (m : Manifest) → all (has_provider ks) rs ≡ true
       → any (λ c. is_some (part_at ks c.number)) m.components ≡ false
       → all (λ r. any (is_provider_of r.provider) m.components) m.resources ≡ true
@@ -166,19 +179,9 @@ module _ (ks : List Part) (rs : List Resource) (newer : List Past) where
       f : Resource → Bool
       f r = test (part_at (ks ++ map (part_of m) m.components) r.provider) stands
 
-      found : (p : ℕ) (o : Option Part) → find (λ k. eqb k.component.number p) ks ≡ o
-          → any (λ k. eqb k.component.number p) ks ≡ true
-          → test (or_find o (find (λ k. eqb k.component.number p) (map (part_of m) m.components))) stands
-          ≡ test o stands
-      found p none e h = absurd (clashing h (none_any (λ k. eqb k.component.number p) ks e))
-      found p (some k) e h = unfold or_find in refl
-
       old : keep f rs ≡ keep (λ r. test (part_at ks r.provider) stands) rs
-      old = keep-mem f (λ r. test (part_at ks r.provider) stands) rs (λ r h. unfold part_at in
-          (ap (λ (o : Option Part). test o stands)
-          (find-append (λ k. eqb k.component.number r.provider) ks (map (part_of m) m.components))
-          ∙ found r.provider (find (λ k. eqb k.component.number r.provider) ks) refl
-          (all-mem (has_provider ks) h there)))
+      old = keep-mem f (λ r. test (part_at ks r.provider) stands) rs
+          (λ r h. stands-still (map (part_of m) m.components) r.provider (all-mem (has_provider ks) h there))
 
       own : (p : ℕ) (o : Option Component) → find (λ c. eqb c.number p) m.components ≡ o
           → any (λ c. eqb c.number p) m.components ≡ true

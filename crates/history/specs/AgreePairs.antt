@@ -1,7 +1,7 @@
 -- The receiver and resource pairs of the loan table, in order: an action keeps those with an operation still lent, and
 -- a lend adds its own where nothing of it was lent.
 use Rattle.std.specs.Prelude.{ℕ, ◌≡◌, Bool, not, ◌&&◌, ◌||◌, cond, eqb}
-use Rattle.std.proofs.Math.Path.{refl, sym, ap}
+use Rattle.std.proofs.Math.Path.{refl, sym, ap, subst}
 use Rattle.std.proofs.Common.{◌∙◌, eqb-true}
 use Rattle.std.proofs.Math.Bool.{true, false, and_comm}
 use mathlib.Core.List.Memᴰ
@@ -94,7 +94,8 @@ alone op {x} (Memᴰ.head {x = y} {xs = l} e) d =
     let rest : any (λ z. same_loan z y && carries op z.operations) l ≡ false = flat _ (λ b.
     clashing (any-mono (λ z. same_loan z y && carries op z.operations) (same_loan y)
     (λ z h. same-sym y z ∙ and_left (same_loan z y) _ h) l b) quiet) in
-    rw (e, same_self y, rest) (or-false (carries op y.operations))
+    subst (λ (w : Loan). any (λ z. same_loan z w && carries op z.operations) (y ∷ l) ≡ carries op w.operations) (sym e)
+    (rw (same_self y, rest) (or-false (carries op y.operations)))
 alone op {x} (Memᴰ.tail {x = y} {xs = l} m) d =
     let quiet = not-true (any (same_loan y) l) (and_left _ (distinct same_loan l) d) in
     rw (none-mem (same_loan y) m quiet) (alone op m (and_right (not (any (same_loan y) l)) _ d))
