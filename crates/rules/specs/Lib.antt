@@ -7,14 +7,11 @@ pub mod ActionLaws
 pub mod Record
 pub mod View
 pub mod Permissions
-pub mod PermissionsLaws
 pub mod Grounds
 pub mod GroundsLaws
 pub mod Refusals
 pub mod Answer
 pub mod Order
-pub mod OrderLaws
 pub mod WellFormed
-pub mod RecordLaws
 pub mod DoneLaws
 pub mod Unique

@@ -12,15 +12,15 @@ use Rattle.rules.specs.Answer.{answer}
 use Rattle.state.specs.Tables.{State, view_of}
 use Rattle.state.specs.Effects.{after, device}
 use Rattle.state.specs.Valid.{valid}
-use Rattle.state.specs.Keeps.{reached-valid}
+use Rattle.state.proofs.Keeps.{reached-valid}
 use Rattle.state.specs.Stored.{device_of, lent_of}
-use Rattle.state.specs.StoredLaws.{model-back, valid-stored, ones-running}
+use Rattle.state.proofs.StoredLaws.{model-back, valid-stored, ones-running}
 use Rattle.state.specs.Step.{inner_answer, inner_state, step_answer, step_device, step_lent}
 use Rattle.history.specs.Log.{log}
 use Rattle.history.specs.Tape.{action_at, actions_before, action_count, record_bytes, place_named}
 use Rattle.history.specs.Tape.{handed}
 use Rattle.history.specs.Sheet.{lines_text, end_line, sheet_of, sheet, sheet_of_log}
-use Rattle.history.specs.Demand3.{sheets-agree}
+use Rattle.history.proofs.Demand3.{sheets-agree}
 use Rattle.history.specs.Run.{monitor_steps, Held, fresh_held, held_at, answer_to, counts_text, last_text, run_lines}
 use Rattle.history.specs.Run.{run_text, run_sheet}
 

@@ -16,7 +16,7 @@ use Rattle.state.specs.Effects.{grants_at, groups_at, keep_grants, apps_after}
 use Rattle.state.specs.Valid.{is_installed}
 use Rattle.state.specs.Ok.{Ok}
 use Rattle.history.specs.Log.{grant_by, group_by}
-use Rattle.history.specs.AgreeApps.{definer-known}
+use Rattle.history.proofs.AgreeApps.{definer-known}
 
 row-there : (rs : List Row) (b : ℕ) → is_some (app_at (apps_of rs) b) ≡ true → is_installed rs b ≡ true
 unfolding app_at

@@ -27,10 +27,10 @@ use Rattle.rules.specs.Answer.{answer}
 use Rattle.rules.specs.DoneLaws.{install-new, nothing}
 use Rattle.state.specs.Tables.{Row, State, apps_of, app_at, part_at, defined_by, known_from, defined_in, view_of}
 use Rattle.state.specs.Effects.{apps_after, definitions_after, parts_after}
-use Rattle.state.specs.LookupLaws.{installed_after, apps-after, only_part, only-definition, definer-is}
+use Rattle.state.proofs.LookupLaws.{installed_after, apps-after, only_part, only-definition, definer-is}
 use Rattle.state.specs.Valid.{same_part, same_permission, is_installed}
 use Rattle.state.specs.Ok.{Ok}
-use Rattle.history.specs.SearchLaws.{or_swap, only-drop, find-new, find-gone, not_taken}
+use Rattle.history.proofs.SearchLaws.{or_swap, only-drop, find-new, find-gone, not_taken}
 use Rattle.history.specs.Log.{unless, is_of, is_by, app_by, part_by, known_in, define_by}
 
 -- ---- apps

@@ -28,7 +28,7 @@ use Rattle.state.specs.Tables.{State, part_at, owned_by}
 use Rattle.state.specs.Effects.{definitions_after, parts_after, resources_after, put, next}
 use Rattle.state.specs.Valid.{is_installed, manifest_from, same_part}
 use Rattle.state.specs.Ok.{TablesOk}
-use Rattle.state.specs.LookupLaws.{owner-is}
+use Rattle.state.proofs.LookupLaws.{owner-is}
 
 -- entries that rise are no two the same, where the same have one key
 pub rising-distinct : {A : Type 0} (key : A → ℕ) (ok : A → Bool) (same : A → A → Bool)

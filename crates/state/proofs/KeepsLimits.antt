@@ -22,8 +22,8 @@ use Rattle.state.specs.Tables.{State, is_loan, view_of}
 use Rattle.state.specs.Effects.{apps_after, parts_after, resources_after, loan_of, kept, carries_any, reduce, widened}
 use Rattle.state.specs.Effects.{loans_after, next}
 use Rattle.state.specs.Ok.{InstancesOk, LimitsOk}
-use Rattle.state.specs.LookupLaws.{full_loans, some-lent}
-use Rattle.state.specs.CapacityLaws.{instances-fit}
+use Rattle.state.proofs.LookupLaws.{full_loans, some-lent}
+use Rattle.state.proofs.CapacityLaws.{instances-fit}
 
 -- ---- a list within a limit, and one made of it
 module _ {A : Type 0} (l : List A) (k : ℕ) where

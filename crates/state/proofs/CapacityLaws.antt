@@ -23,7 +23,7 @@ use Rattle.rules.specs.Refusals.{grantable, is_group}
 use Rattle.state.specs.Tables.{Row, State, app_number, view_of}
 use Rattle.state.specs.Valid.{manifest_from, good_grant, valid}
 use Rattle.state.specs.Ok.{Ok, InstancesOk, valid→ok}
-use Rattle.state.specs.ManifestLaws.{rising-distinct}
+use Rattle.state.proofs.ManifestLaws.{rising-distinct}
 use Rattle.state.specs.Capacity.{Fits}
 
 -- at most as many instances as there are numbers

@@ -12,11 +12,11 @@ use Rattle.state.specs.Tables.{State, fresh, view_of}
 use Rattle.state.specs.Effects.{next, after, device}
 use Rattle.state.specs.Valid.{tests, every, valid}
 use Rattle.state.specs.Ok.{Ok, valid→ok, ok→valid}
-use Rattle.state.specs.KeepsRows.{rows_ok}
-use Rattle.state.specs.KeepsTables.{tables-ok}
-use Rattle.state.specs.KeepsInstances.{instances-ok}
-use Rattle.state.specs.KeepsLoans.{loans-ok}
-use Rattle.state.specs.KeepsLimits.{limits-ok}
+use Rattle.state.proofs.KeepsRows.{rows_ok}
+use Rattle.state.proofs.KeepsTables.{tables-ok}
+use Rattle.state.proofs.KeepsInstances.{instances-ok}
+use Rattle.state.proofs.KeepsLoans.{loans-ok}
+use Rattle.state.proofs.KeepsLimits.{limits-ok}
 
 keeps-ok : (L : Limits) (s : State) (x : Action) (g : Ground) (v : ℕ) → Ok L s → answer L (view_of s) x ≡ Done g v
     → Ok L (next s x v)

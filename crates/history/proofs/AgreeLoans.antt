@@ -15,7 +15,7 @@ use Rattle.rules.specs.Action.{on_grants, on_runs, write, on_loans, query}
 use Rattle.rules.specs.ActionLaws.{carries-those}
 use Rattle.state.specs.Tables.{part_at, owned_by, is_to, is_on, is_loan, lent_in}
 use Rattle.state.specs.Effects.{loan_of, with_operations, kept, carries_any, reduce, widened, ends_with, loans_after}
-use Rattle.state.specs.LookupLaws.{owner-is}
+use Rattle.state.proofs.LookupLaws.{owner-is}
 use Rattle.state.specs.Valid.{same_part}
 use Rattle.history.specs.Log.{lent_by}
 

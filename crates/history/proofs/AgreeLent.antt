@@ -19,12 +19,12 @@ use Rattle.rules.specs.Action.{on_loans, query}
 use Rattle.rules.specs.DoneLaws.{lends_some}
 use Rattle.state.specs.Tables.{is_to, is_on, is_loan}
 use Rattle.state.specs.Effects.{loan_of, loans_after}
-use Rattle.state.specs.LookupLaws.{Only, only-distinct, some-lent}
+use Rattle.state.proofs.LookupLaws.{Only, only-distinct, some-lent}
 use Rattle.state.specs.Valid.{same_loan}
 use Rattle.history.specs.Log.{Past, Pair, is_of, same_pair, lends, lasting, lent_by}
-use Rattle.history.specs.AgreeLoans.{Alike, alike}
-use Rattle.history.specs.AgreePairs.{Fine, of_kind, receiver_of, pair_of, some_in, kind-is, number_is}
-use Rattle.history.specs.AgreePairs.{receiver-of-new, added, pairs-step}
+use Rattle.history.proofs.AgreeLoans.{Alike, alike}
+use Rattle.history.proofs.AgreePairs.{Fine, of_kind, receiver_of, pair_of, some_in, kind-is, number_is}
+use Rattle.history.proofs.AgreePairs.{receiver-of-new, added, pairs-step}
 
 -- the pair is lent again later
 abbrev pub later : List Past → Pair → Bool

@@ -13,7 +13,7 @@ use Rattle.rules.specs.DoneLaws.{start-free}
 use Rattle.state.specs.Tables.{State, run_in, view_of}
 use Rattle.state.specs.Effects.{instances_after}
 use Rattle.history.specs.Log.{run_by}
-use Rattle.history.specs.SearchLaws.{find-new, find-gone}
+use Rattle.history.proofs.SearchLaws.{find-new, find-gone}
 
 started : (is : List Instance) (c v n : ℕ) → run_in is v ≡ none
     → run_in (is ++ (record { number = v; component = c } ∷ [])) n ≡ cond (eqb v n) (some c) (run_in is n)

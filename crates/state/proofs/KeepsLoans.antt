@@ -29,9 +29,9 @@ use Rattle.state.specs.Effects.{ends_with, loans_after, next}
 use Rattle.state.specs.EffectsLaws.{reduce-keep}
 use Rattle.state.specs.Valid.{is_installed, is_live, is_sharing_provider}
 use Rattle.state.specs.Ok.{LoansOk}
-use Rattle.state.specs.LookupLaws.{run-any, full_loans, loans-distinct, loans-full}
-use Rattle.state.specs.KeepsRows.{installed-is, installed-map}
-use Rattle.state.specs.KeepsInstances.{part-more, part-less}
+use Rattle.state.proofs.LookupLaws.{run-any, full_loans, loans-distinct, loans-full}
+use Rattle.state.proofs.KeepsRows.{installed-is, installed-map}
+use Rattle.state.proofs.KeepsInstances.{part-more, part-less}
 
 -- ---- what each loan has to have: a live receiver, an existing resource, a sharing provider
 record LoanOk (s : State) (x : Loan) : Type 0 where

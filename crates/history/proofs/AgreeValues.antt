@@ -22,10 +22,10 @@ use Rattle.rules.specs.Answer.{answer}
 use Rattle.rules.specs.DoneLaws.{install-good, install-new, provided, write-there, nothing}
 use Rattle.state.specs.Tables.{State, part_at, owned_by, is_resource, value_in, view_of}
 use Rattle.state.specs.Effects.{put, resources_after}
-use Rattle.state.specs.LookupLaws.{owner-is, has_provider}
+use Rattle.state.proofs.LookupLaws.{owner-is, has_provider}
 use Rattle.state.specs.Ok.{Ok}
 use Rattle.history.specs.Log.{first_value, value_by}
-use Rattle.history.specs.SearchLaws.{not_taken}
+use Rattle.history.proofs.SearchLaws.{not_taken}
 
 same-resource : (p u : ℕ) (r : Resource) → is_resource p u r ≡ true → (r.provider ≡ p) × (r.uri ≡ u)
 unfolding is_resource

@@ -44,10 +44,10 @@ use Rattle.state.specs.Effects.{parts_after, put, resources_after, instances_aft
 use Rattle.state.specs.Valid.{same_app, same_part, same_resource, same_permission, is_installed, manifest_from}
 use Rattle.state.specs.Valid.{good_grant}
 use Rattle.state.specs.Ok.{TablesOk}
-use Rattle.state.specs.LookupLaws.{apps-after, installed_after, has_provider, providers-stay}
-use Rattle.state.specs.ManifestLaws.{rising-distinct, not-gone, found-still, not-in-table, provider-its-own}
-use Rattle.state.specs.ManifestLaws.{install-leaves, install-makes, uninstall-leaves, write-leaves-good}
-use Rattle.state.specs.KeepsRows.{installed-is, installed-map, all-change}
+use Rattle.state.proofs.LookupLaws.{apps-after, installed_after, has_provider, providers-stay}
+use Rattle.state.proofs.ManifestLaws.{rising-distinct, not-gone, found-still, not-in-table, provider-its-own}
+use Rattle.state.proofs.ManifestLaws.{install-leaves, install-makes, uninstall-leaves, write-leaves-good}
+use Rattle.state.proofs.KeepsRows.{installed-is, installed-map, all-change}
 
 -- the tests on a row
 abbrev good_app : State → Row → Bool

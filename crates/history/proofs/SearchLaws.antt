@@ -8,7 +8,7 @@ use Rattle.std.proofs.Math.Dec.{eqb}
 use Rattle.rules.specs.Lists.{any, keep, find, is_some, bind, or_find}
 use Rattle.rules.specs.ListsLaws.{find-append, find-one, find-keep, find-cong, find-and, find_none, any-mem, any-mono}
 use Rattle.rules.specs.ListsLaws.{any-keep, none-mem, by_eqb, eqb-sym, and-false, and_right, flat, clashing}
-use Rattle.state.specs.LookupLaws.{Only}
+use Rattle.state.proofs.LookupLaws.{Only}
 use Rattle.history.specs.Log.{unless}
 
 -- of two searches at most one finds

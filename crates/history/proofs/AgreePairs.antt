@@ -21,10 +21,10 @@ use Rattle.rules.specs.DoneLaws.{lends_some}
 use Rattle.state.specs.Tables.{is_to, is_on, is_loan, lent_in}
 use Rattle.state.specs.Effects.{loan_of, with_operations, kept, carries_any, reduce, widened, ends_with, loans_after}
 use Rattle.state.specs.EffectsLaws.{carries-some}
-use Rattle.state.specs.LookupLaws.{full_loans, some-lent, loans-distinct, loans-full}
+use Rattle.state.proofs.LookupLaws.{full_loans, some-lent, loans-distinct, loans-full}
 use Rattle.state.specs.Valid.{same_loan}
 use Rattle.history.specs.Log.{Pair}
-use Rattle.history.specs.AgreeLoans.{lent-reduced}
+use Rattle.history.proofs.AgreeLoans.{lent-reduced}
 
 -- ---- the pair of a loan to an instance or to an app
 abbrev pub of_kind : Loan → Bool

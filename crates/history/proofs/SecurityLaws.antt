@@ -21,7 +21,7 @@ use Rattle.rules.specs.View.{App, View}
 use Rattle.rules.specs.Permissions.{holds}
 use Rattle.rules.specs.Grounds.{is_exported, is_sharing, is_ground, right_ground, ground, running_app, provider, right_of}
 use Rattle.rules.specs.Grounds.{ground_of}
-use Rattle.rules.specs.PermissionsLaws.{holds-dangerous}
+use Rattle.rules.proofs.PermissionsLaws.{holds-dangerous}
 use Rattle.rules.specs.GroundsLaws.{right-exactly, ground-exactly}
 use Rattle.rules.specs.Refusals.{is_group, access, lacking, refusals}
 use Rattle.rules.specs.Answer.{decide, answer}
@@ -30,13 +30,13 @@ use Rattle.state.specs.Tables.{Row, State, app_number, granted_in, grouped_in, i
 use Rattle.state.specs.Effects.{parts_after, resources_after, instances_after, loans_after, next, after, device}
 use Rattle.state.specs.Valid.{valid}
 use Rattle.state.specs.Ok.{valid→ok}
-use Rattle.state.specs.LookupLaws.{installed_after, apps-after}
-use Rattle.state.specs.Keeps.{reached-valid}
+use Rattle.state.proofs.LookupLaws.{installed_after, apps-after}
+use Rattle.state.proofs.Keeps.{reached-valid}
 use Rattle.history.specs.Log.{Past, history, log_granted, log}
-use Rattle.history.specs.AgreeLoans.{lent-reduced}
-use Rattle.history.specs.Agree.{agrees}
+use Rattle.history.proofs.AgreeLoans.{lent-reduced}
+use Rattle.history.proofs.Agree.{agrees}
 use Rattle.history.specs.Ended.{gives_grant, ends_grant, ended_in}
-use Rattle.history.specs.EndedLaws.{granted-since, grant-ended}
+use Rattle.history.proofs.EndedLaws.{granted-since, grant-ended}
 use Rattle.history.specs.Security.{is_done, Ungrouped, GrantedSince, There, is_lent, Secure}
 
 -- ---- a dangerous permission of group 0 is held exactly if it is listed and granted, where group 0 is not granted

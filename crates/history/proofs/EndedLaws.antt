@@ -23,7 +23,7 @@ use Rattle.rules.specs.Action.{on_runs, write, on_loans, read, query, reading, w
 use Rattle.rules.specs.View.{App, View}
 use Rattle.rules.specs.Permissions.{allows}
 use Rattle.rules.specs.Grounds.{is_ground, ground, running_app, provider, ground_of}
-use Rattle.rules.specs.PermissionsLaws.{holds-dangerous}
+use Rattle.rules.proofs.PermissionsLaws.{holds-dangerous}
 use Rattle.rules.specs.GroundsLaws.{by-permission, by-loan-to-instance, by-loan-to-app}
 use Rattle.rules.specs.Refusals.{Refusal, refusals}
 use Rattle.rules.specs.Answer.{decide, answer, ground_for}
@@ -31,7 +31,7 @@ use Rattle.state.specs.Tables.{State, part_at, view_of}
 use Rattle.state.specs.Effects.{device}
 use Rattle.history.specs.Log.{Past, is_of, is_by, log_part, log_defined, grant_by, log_granted, group_by, log_grouped}
 use Rattle.history.specs.Log.{lent_by, log_lent, history, log}
-use Rattle.history.specs.Agree.{agrees}
+use Rattle.history.proofs.Agree.{agrees}
 use Rattle.history.specs.Ended.{gives_loan, ends_loan, gives_grant, ends_grant, gives_group, ends_group, ended_in}
 use Rattle.history.specs.Ended.{Lasting, EndedSince, Accesses, reads, writes, Guarded}
 

@@ -9,11 +9,11 @@ use Rattle.rules.specs.Answer.{answer, line_of}
 use Rattle.state.specs.Tables.{State, view_of}
 use Rattle.state.specs.Effects.{device}
 use Rattle.state.specs.Ok.{valid→ok}
-use Rattle.state.specs.Keeps.{reached-valid}
+use Rattle.state.proofs.Keeps.{reached-valid}
 use Rattle.history.specs.Log.{Past, history, log_count, log_running, log_loans, view_of_log, log, log_alone}
 use Rattle.history.specs.Tape.{actions_of}
 use Rattle.history.specs.Sheet.{sheet, sheet_of_log}
-use Rattle.history.specs.Agree.{agrees, same-views}
+use Rattle.history.proofs.Agree.{agrees, same-views}
 
 -- every question of the rules
 pub views-agree : (L : Limits) (xs : List Action) → view_of (device L xs) ≡ view_of_log (history (log L xs))

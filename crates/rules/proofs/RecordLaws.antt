@@ -21,7 +21,7 @@ use Rattle.rules.specs.Record.{Fields, Form, fields_of, forms, fits, fitting, fo
 use Rattle.rules.specs.View.{View}
 use Rattle.rules.specs.Refusals.{Refusal, refusals}
 use Rattle.rules.specs.Answer.{decide, answer, number_of}
-use Rattle.rules.specs.OrderLaws.{ordered}
+use Rattle.rules.proofs.OrderLaws.{ordered}
 use Rattle.rules.specs.WellFormed.{is_code, fields_fit, well_formed}
 
 -- ---- actions that refusal 2 spares

@@ -19,23 +19,23 @@ use Rattle.rules.specs.DoneLaws.{lends_some_lem}
 use Rattle.state.specs.Tables.{State, fresh, apps_of, app_at, part_at, defined_in, granted_in, grouped_in, run_in, value_in}
 use Rattle.state.specs.Tables.{lent_in, view_of}
 use Rattle.state.specs.Effects.{loans_after, next, after, device}
-use Rattle.state.specs.LookupLaws.{apps-after}
+use Rattle.state.proofs.LookupLaws.{apps-after}
 use Rattle.state.specs.Valid.{is_installed, is_live}
 use Rattle.state.specs.Ok.{Ok, valid→ok}
-use Rattle.state.specs.Keeps.{reached-valid}
+use Rattle.state.proofs.Keeps.{reached-valid}
 use Rattle.history.specs.Log.{Past, counted, history, log_app, log_part, log_defined, log_runs, log_granted}
 use Rattle.history.specs.Log.{log_grouped, lent_by, log_lent, log_value, total, uninstalls, installed, log_count}
 use Rattle.history.specs.Log.{stops, started, log_running, Pair, lends, lent_still, lasting, log_loans, view_of_log}
 use Rattle.history.specs.Log.{log}
-use Rattle.history.specs.AgreeRuns.{runs-step}
-use Rattle.history.specs.AgreeApps.{app-step, part_step, defined-step}
-use Rattle.history.specs.AgreeGrants.{granted-step, grouped-step}
-use Rattle.history.specs.AgreeValues.{value-step}
-use Rattle.history.specs.AgreeLoans.{lent-step}
-use Rattle.history.specs.AgreePairs.{of_kind, pair_of, some_in, Fine, pairs-stay}
-use Rattle.history.specs.AgreeCounts.{left, left-whole, left_resources, resources-whole, past, apps-count}
-use Rattle.history.specs.AgreeCounts.{components-count, running-count, resources-count}
-use Rattle.history.specs.AgreeLent.{later, left_pairs, loans-count, lent-before}
+use Rattle.history.proofs.AgreeRuns.{runs-step}
+use Rattle.history.proofs.AgreeApps.{app-step, part_step, defined-step}
+use Rattle.history.proofs.AgreeGrants.{granted-step, grouped-step}
+use Rattle.history.proofs.AgreeValues.{value-step}
+use Rattle.history.proofs.AgreeLoans.{lent-step}
+use Rattle.history.proofs.AgreePairs.{of_kind, pair_of, some_in, Fine, pairs-stay}
+use Rattle.history.proofs.AgreeCounts.{left, left-whole, left_resources, resources-whole, past, apps-count}
+use Rattle.history.proofs.AgreeCounts.{components-count, running-count, resources-count}
+use Rattle.history.proofs.AgreeLent.{later, left_pairs, loans-count, lent-before}
 
 pub record Agrees (s : State) (h : List Past) : Type 0 where
   pub app : (n : ℕ) → app_at (apps_of s.rows) n ≡ log_app h n

@@ -17,7 +17,7 @@ use Rattle.state.specs.Tables.{Row, State}
 use Rattle.state.specs.Valid.{valid}
 use Rattle.state.specs.Ok.{valid→ok}
 use Rattle.state.specs.Capacity.{Fits}
-use Rattle.state.specs.CapacityLaws.{valid-fits}
+use Rattle.state.proofs.CapacityLaws.{valid-fits}
 use Rattle.state.specs.Stored.{zero_app, zero_definition, zero_part, zero_resource, zero_instance, zero_loan, runs}
 use Rattle.state.specs.Stored.{digits_of, mask_of, row_of, model_of, padded, app_from, device_of, lent_of, is_zero}
 use Rattle.state.specs.Stored.{is_zero_definition, is_zero_part, is_zero_resource, is_zero_instance, is_zero_loan, pads}

@@ -27,11 +27,11 @@ use Rattle.rules.specs.Answer.{answer}
 use Rattle.rules.specs.DoneLaws.{install-good, install-new, provided}
 use Rattle.state.specs.Tables.{State, part_at, owned_by, view_of}
 use Rattle.state.specs.Effects.{parts_after, put, resources_after, instances_after}
-use Rattle.state.specs.LookupLaws.{installed_after, owner-is, has_provider}
+use Rattle.state.proofs.LookupLaws.{installed_after, owner-is, has_provider}
 use Rattle.state.specs.Valid.{same_part}
 use Rattle.state.specs.Ok.{Ok}
 use Rattle.history.specs.Log.{Past, unless, is_of, uninstalls, installed, stops, started}
-use Rattle.history.specs.AgreeApps.{part-gone, part-new}
+use Rattle.history.proofs.AgreeApps.{part-gone, part-new}
 
 -- ---- what the later actions leave of a list, if each ends what has a number
 module _ (ends : ℕ → Action → Bool) where

@@ -12,17 +12,17 @@ use Rattle.state.specs.declared.Device.{Device}
 use Rattle.state.specs.Tables.{fresh}
 use Rattle.state.specs.Effects.{device}
 use Rattle.state.specs.Stored.{device_of}
-use Rattle.state.specs.Keeps.{reached-valid}
-use Rattle.state.specs.CapacityLaws.{valid-fits}
+use Rattle.state.proofs.Keeps.{reached-valid}
+use Rattle.state.proofs.CapacityLaws.{valid-fits}
 use Rattle.history.specs.Log.{view_of_log, log_alone}
 use Rattle.history.specs.Tape.{manifest_place, lengths_fit, is_tape, action_count, actions_before, actions_of}
 use Rattle.history.specs.Sheet.{decimal, field, space, newline, answers_text, end_text, running_text, lent_text}
 use Rattle.history.specs.Sheet.{lines_text, end_line, sheet_of, sheet, sheet_of_log}
 use Rattle.history.specs.Marked.{device_lines, log_lines}
 use Rattle.history.specs.Example.{example_tape}
-use Rattle.history.specs.Demand3.{counts-agree, sheets-agree}
+use Rattle.history.proofs.Demand3.{counts-agree, sheets-agree}
 use Rattle.history.specs.Run.{Steps, monitor_steps, Held, fresh_held, held_at, counts_text}
-use Rattle.history.specs.RunLaws.{run-held, run-answers}
+use Rattle.history.proofs.RunLaws.{run-held, run-answers}
 use Rattle.history.specs.Security.{is_done}
 use Rattle.history.specs.DecimalLaws.{same_number}
 use Rattle.history.specs.Wrong.{Meets, AtEveryRecord, answer_at, RefusesEverything, DoneToEverything}

@@ -26,8 +26,8 @@ use Rattle.state.specs.Tables.{State, part_at, owned_by, run_in, view_of}
 use Rattle.state.specs.Effects.{parts_after, instances_after, next}
 use Rattle.state.specs.Valid.{same_part}
 use Rattle.state.specs.Ok.{InstancesOk}
-use Rattle.state.specs.LookupLaws.{owner-is, instances-distinct, instances-range}
-use Rattle.state.specs.ManifestLaws.{found-still}
+use Rattle.state.proofs.LookupLaws.{owner-is, instances-distinct, instances-range}
+use Rattle.state.proofs.ManifestLaws.{found-still}
 
 -- a component that is there stays so when others come
 pub part-more : (ks js : List Part) (c : ℕ) (f : Part → Bool) → test (part_at ks c) f ≡ true

@@ -1,0 +1,15 @@
+pub mod SearchLaws
+pub mod AgreeRuns
+pub mod AgreeApps
+pub mod AgreeGrants
+pub mod AgreeValues
+pub mod AgreeLoans
+pub mod AgreePairs
+pub mod AgreeCounts
+pub mod AgreeLent
+pub mod Agree
+pub mod Demand3
+pub mod RunLaws
+pub mod EndedLaws
+pub mod SecurityLaws
+pub mod WrongLaws

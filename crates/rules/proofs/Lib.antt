@@ -1,0 +1,3 @@
+pub mod PermissionsLaws
+pub mod OrderLaws
+pub mod RecordLaws

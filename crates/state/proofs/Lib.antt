@@ -1,0 +1,11 @@
+pub mod LookupLaws
+pub mod ManifestLaws
+pub mod CapacityLaws
+pub mod KeepsRows
+pub mod KeepsTables
+pub mod KeepsInstances
+pub mod KeepsLimits
+pub mod KeepsLoans
+pub mod Keeps
+pub mod StoredLaws
+pub mod RefusalLaws
