@@ -13,8 +13,8 @@ use Rattle.state.specs.Effects.{next}
 use Rattle.state.specs.Stored.{device_of}
 use Rattle.state.specs.Valid.{valid}
 use Rattle.state.specs.Capacity.{Fits}
-use Rattle.state.specs.CapacityLaws.{valid-fits}
-use Rattle.state.specs.Keeps.{keeps}
+use Rattle.state.proofs.CapacityLaws.{valid-fits}
+use Rattle.state.proofs.Keeps.{keeps}
 use Rattle.tables.specs.declared.Change.{Change}
 use Rattle.tables.specs.HeldLaws.{definitions-held, parts_held, resources-held, instance-more, instance-less}
 use Rattle.tables.specs.HeldLaws.{value_written}

@@ -13,7 +13,7 @@ use Rattle.history.specs.Tape.{is_tape, actions_place, action_count}
 use Rattle.history.specs.TapeLaws.{few-actions}
 use Rattle.history.specs.Sheet.{field, refused_text, answers_text, sheet}
 use Rattle.history.specs.Run.{monitor_steps, Held, run_lines, run_text, run_sheet}
-use Rattle.history.specs.RunLaws.{run-sheet}
+use Rattle.history.proofs.RunLaws.{run-sheet}
 use Rattle.tape.specs.declared.Start.{Start}
 use Rattle.tape.specs.declared.Start.TheVariants.{At, NoTape}
 use Rattle.tape.specs.declared.Wrote.{Wrote}
