@@ -1,7 +1,7 @@
 -- What owning a loan table, or its array, tells: how long the array is.
-use mathlib.Core.Path.{◌≡◌, sym, ◌∙◌}
+use mathlib.Core.Path.{◌≡◌}
 use mathlib.Core.List.{List}
-use lib.ListN.{length, length-map}
+use lib.ListN.{length}
 use denote.Laws.{Is}
 use denote.Array.{Array}
 use denote.Struct.Declared.{row}

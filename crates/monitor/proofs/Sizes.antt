@@ -1,15 +1,15 @@
 -- What owning a device tells of its arrays: each has its length.
-use mathlib.Core.Path.{◌≡◌, refl, sym, ◌∙◌}
+use mathlib.Core.Path.{◌≡◌, refl}
 use mathlib.Core.Bool.{Bool, true}
-use mathlib.Core.List.{List, [], ◌∷◌, map}
+use mathlib.Core.List.{List, [], ◌∷◌}
 use native.Mathlib.Omega.{arith}
 use borrow.Author.Tests.{eq-eqb, le-leb}
 use lib.Dec.{leb}
-use lib.ListN.{length, length-map}
+use lib.ListN.{length}
 use denote.Laws.{Is}
 use denote.Array.{each}
 use denote.Shadow.{shadow}
-use denote.Struct.Declared.{row, field}
+use denote.Struct.Declared.{row}
 use mir.Val.{Val}
 use Rattle.rules.specs.Lists.{all}
 use Rattle.rules.specs.ListsLaws.{both}

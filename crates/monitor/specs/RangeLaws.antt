@@ -1,5 +1,5 @@
 -- What a done answer tells of the numbers in the action: they fit the bytes that the tables have for them.
-use Rattle.std.specs.Prelude.{ℕ, ◌≤◌, ◌≡◌, false, ◌&&◌, List, map, take, drop}
+use Rattle.std.specs.Prelude.{ℕ, ◌≤◌, ◌≡◌, ◌&&◌, List, map, take, drop}
 use Rattle.std.proofs.Math.Path.{refl}
 use Rattle.std.proofs.Common.{sym, ap, ◌∙◌, take-append-drop}
 use Rattle.std.proofs.Math.Bool.{true}

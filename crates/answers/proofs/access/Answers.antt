@@ -1,7 +1,6 @@
 -- `access` meets its contract: the way tells of provider, instance and ground, the search of the stored value.
-use Rattle.answers.proofs.Kit.{◌≡◌, ap, sym, refl, ◌∙◌, not, rules, op_of, refuses, passes, ends}
+use Rattle.answers.proofs.Kit.{◌≡◌, ap, sym, refl, ◌∙◌, not, op_of, refuses, passes, ends}
 use mathlib.Core.Option.{some}
-use Rattle.rules.specs.declared.Ground.{Ground}
 use Rattle.rules.specs.Grounds.{provider, running_app, ground, ground_of}
 use Rattle.state.specs.Tables.{view_of}
 use Rattle.state.specs.Stored.{model_of}

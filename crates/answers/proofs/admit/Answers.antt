@@ -1,5 +1,5 @@
 -- `admit` meets its contract: the sections stand where the verdict says.
-use Rattle.answers.proofs.Kit.{◌≡◌, [], sym, ap, ◌∙◌, rules, refuses, passes, ends}
+use Rattle.answers.proofs.Kit.{◌≡◌, [], sym, ap, ◌∙◌, refuses, passes, ends}
 use Rattle.manifest.specs.Layout.{laid_out, manifest_of}
 use Rattle.state.specs.Tables.{view_of}
 use Rattle.state.specs.Stored.{model_of}

@@ -1,5 +1,5 @@
 -- `ask` meets its contract: the tests come in the order of the refusals.
-use Rattle.answers.proofs.Kit.{ℕ, [], sym, ap, ◌∙◌, rules, view_by, refuses, passes, ends}
+use Rattle.answers.proofs.Kit.{ℕ, [], sym, ap, ◌∙◌, view_by, refuses, passes, ends}
 use Rattle.rules.specs.declared.Ground.TheVariants.{Nothing}
 use Rattle.rules.specs.declared.Answer.TheVariants.{Done}
 use Rattle.rules.specs.Action.{bit, ask, query}

@@ -1,5 +1,5 @@
 -- `barred` meets its contract: the person and an instance are asked by their own rules.
-use Rattle.answers.proofs.Kit.{◌<◌, not, ap, sym, ◌∙◌, arith, rules, view_by}
+use Rattle.answers.proofs.Kit.{◌<◌, not, ap, sym, ◌∙◌, arith, view_by}
 use Rattle.rules.specs.Permissions.{known, hold, holds, allows}
 use Rattle.rules.specs.Grounds.{running_app}
 use Rattle.rules.specs.Refusals.{barred, app_may_start}

@@ -1,5 +1,5 @@
 -- `clashes` meets its contract: the app's number, the components and the definitions are asked one after the other.
-use Rattle.answers.proofs.Kit.{◌≡◌, [], sym, ◌∙◌, rules, is_some, apps_in, view_by, app-here}
+use Rattle.answers.proofs.Kit.{◌≡◌, [], sym, ◌∙◌, is_some, apps_in, view_by, app-here}
 use Rattle.rules.specs.Permissions.{known}
 use Rattle.state.specs.Tables.{view_of}
 use Rattle.state.specs.Stored.{model_of}

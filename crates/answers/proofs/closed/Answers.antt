@@ -1,5 +1,4 @@
 -- `closed` meets its contract: each way has its answer.
-use Rattle.answers.proofs.Kit.{rules}
 use Rattle.answers.proofs.closed.Goals as goal
 
 pub returns-in-NoProvider : goal.returns-in-NoProvider

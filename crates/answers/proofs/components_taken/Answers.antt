@@ -1,12 +1,8 @@
 -- `components_taken` meets its contract: at each turn the whole answer is the answer for the entries that are left.
-use Rattle.answers.proofs.Kit.{◌≡◌, ◌+◌, Bool, refl, sym, ◌∙◌, arith, rules, any, is_some, parts_in}
-use Prim.Native.Nat.{◌*◌}
-use Rattle.manifest.specs.declared.Component.{Component}
-use Rattle.manifest.specs.Layout.{component_at, entries}
+use Rattle.answers.proofs.Kit.{◌≡◌, refl, sym, ◌∙◌, arith}
+use Rattle.manifest.specs.Layout.{component_at}
 use Rattle.manifest.specs.Verdict.{zero_component}
 use Rattle.manifest.proofs.Turns.{any-on, any_here, any_none}
-use Rattle.state.specs.declared.Parts.{Parts}
-use Rattle.state.specs.Tables.{part_at}
 use Rattle.answers.specs.AnsweringLaws.{part-here}
 use Rattle.answers.specs.InstallingLaws.{entry-there}
 use Rattle.answers.proofs.components_taken.Goals as goal
@@ -29,13 +25,12 @@ returns-then-has_part c =
     c.if-has_part.true)
 
 pub loop-left-preserved : goal.loop-left-preserved
-loop-left-preserved c =
-    (
-      omega arith,
-      c.loop-left.invariant.1
-          ∙ any-on _ 8 _ _ _ c.loop-left-test.true (entry (goal.at.loop-left-preserved c).After-component_at-c) (c.has_part.ensures ∙ part-here _ _)
-          c.if-has_part.false,
-    )
+loop-left-preserved c = (
+  omega arith,
+  c.loop-left.invariant.1
+      ∙ any-on _ 8 _ _ _ c.loop-left-test.true (entry (goal.at.loop-left-preserved c).After-component_at-c) (c.has_part.ensures ∙ part-here _ _)
+      c.if-has_part.false,
+)
 
 pub returns : goal.returns
 returns c = sym (c.loop-left.invariant.1 ∙ any_none _ 8 _ _ _ c.loop-left-test.false)

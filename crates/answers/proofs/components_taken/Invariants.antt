@@ -1,14 +1,10 @@
 -- `components_taken` meets its contract: at each turn the whole answer is the answer for the entries that are left.
-use Rattle.answers.proofs.Kit.{◌≡◌, ◌+◌, Bool, refl, sym, ◌∙◌, arith, rules, any, is_some, parts_in}
+use Rattle.answers.proofs.Kit.{◌≡◌, ◌+◌, Bool, any, is_some, parts_in}
 use Prim.Native.Nat.{◌*◌}
 use Rattle.manifest.specs.declared.Component.{Component}
 use Rattle.manifest.specs.Layout.{component_at, entries}
-use Rattle.manifest.specs.Verdict.{zero_component}
-use Rattle.manifest.proofs.Turns.{any-on, any_here, any_none}
 use Rattle.state.specs.declared.Parts.{Parts}
 use Rattle.state.specs.Tables.{part_at}
-use Rattle.answers.specs.AnsweringLaws.{part-here}
-use Rattle.answers.specs.InstallingLaws.{entry-there}
 use Rattle.answers.proofs.components_taken.Given as goal
 
 abbrev pub taken : Parts → Component → Bool

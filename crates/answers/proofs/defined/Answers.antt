@@ -1,6 +1,6 @@
 -- `defined` meets its contract: a permission is defined exactly if it is not undefined.
 use Rattle.answers.proofs.Kit.{◌≡◌, [], Bool, true, false, not, refl, ap, ◌∙◌, is_some, missing, rows_in}
-use Rattle.answers.proofs.Kit.{definitions_in, view_by, rules}
+use Rattle.answers.proofs.Kit.{definitions_in, view_by}
 use Rattle.rules.specs.Permissions.{known}
 use Rattle.answers.proofs.defined.Goals as goal
 

@@ -1,5 +1,5 @@
 -- `find_provider` meets its contract: the component at the place that is found is the first of its number.
-use Rattle.answers.proofs.Kit.{◌<◌, sym, ◌∙◌, arith, rules, is_part, Found, found, not_found, parts-long, eq-eqb}
+use Rattle.answers.proofs.Kit.{◌<◌, sym, ◌∙◌, arith, is_part, Found, found, not_found, parts-long, eq-eqb}
 use Rattle.answers.proofs.Kit.{ne_eqb, bind, view_by}
 use Rattle.rules.specs.Grounds.{provider}
 use Rattle.state.specs.Stored.{zero_part}

@@ -1,7 +1,6 @@
 -- `find_wide_instance` meets its contract: at each turn the whole answer is the answer for the instances that are left.
-use Rattle.answers.proofs.Kit.{◌-◌, sym, ◌∙◌, arith, rules, eq-eqb, ne_eqb, instances-long, bound, instances_in}
-use Rattle.answers.proofs.Kit.{place_of, is_instance}
-use Rattle.answers.proofs.Kit.{Placed, placed-begin, placed-next, placed-hits, placed-ends}
+use Rattle.answers.proofs.Kit.{sym, ◌∙◌, eq-eqb, ne_eqb, instances-long, bound}
+use Rattle.answers.proofs.Kit.{placed-begin, placed-next, placed-hits, placed-ends}
 use Rattle.answers.proofs.find_wide_instance.Goals as goal
 
 pub loop-i-init : goal.loop-i-init

@@ -1,5 +1,5 @@
 -- `full_of_apps` meets its contract: the table holds as many apps as its list has.
-use Rattle.answers.proofs.Kit.{ap, sym, ◌∙◌, leb, row_of, apps_in, apps-long, rules}
+use Rattle.answers.proofs.Kit.{ap, sym, ◌∙◌, leb, row_of, apps_in, apps-long}
 use Rattle.rules.specs.ListsLaws.{length-map}
 use Rattle.answers.specs.InstallingLaws.{held}
 use Rattle.answers.proofs.full_of_apps.Goals as goal

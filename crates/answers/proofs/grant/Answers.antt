@@ -1,5 +1,5 @@
 -- `grant` meets its contract: the tests come in the order of the refusals.
-use Rattle.answers.proofs.Kit.{ℕ, [], ◌∙◌, rules, view_by, refuses, passes, ends}
+use Rattle.answers.proofs.Kit.{ℕ, [], ◌∙◌, view_by, refuses, passes, ends}
 use Rattle.rules.specs.Action.{grant, on_grants}
 use Rattle.rules.specs.Permissions.{known}
 use Rattle.rules.specs.Refusals.{refusals}

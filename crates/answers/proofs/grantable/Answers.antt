@@ -1,5 +1,4 @@
 -- `grantable` meets its contract: the bytes of the app's uses are searched.
-use Rattle.answers.proofs.Kit.{rules}
 use Rattle.rules.specs.Refusals.{grantable}
 use Rattle.answers.proofs.grantable.Goals as goal
 

@@ -1,5 +1,5 @@
 -- `ground_of` meets its contract: the right of the app first, then a loan to the instance, then one to the app.
-use Rattle.answers.proofs.Kit.{rules, view_by}
+use Rattle.answers.proofs.Kit.{view_by}
 use Rattle.rules.specs.Permissions.{known, hold, holds, allows}
 use Rattle.rules.specs.Grounds.{right_ground}
 use Rattle.state.specs.Tables.{view_of}

@@ -1,10 +1,7 @@
 -- `groupable` meets its contract: at each turn the whole answer is the answer for the uses that are left.
-use Rattle.answers.proofs.Kit.{ℕ, ◌-◌, ◌&&◌, Bool, sym, ◌∙◌, [], arith, rules, eqb, any, take, test, bound}
-use Rattle.answers.proofs.Kit.{rows_in, definitions_in, view_by, Some, some-begin, some_next, some-hits, some-ends}
-use Rattle.rules.specs.Permissions.{known, dangerous}
+use Rattle.answers.proofs.Kit.{sym, ◌∙◌, bound}
+use Rattle.answers.proofs.Kit.{some-begin, some_next, some-hits, some-ends}
 use Rattle.rules.specs.Refusals.{groupable}
-use Rattle.state.specs.declared.Apps.{Apps}
-use Rattle.state.specs.declared.Definitions.{Definitions}
 use Rattle.answers.proofs.Sizes.{uses-long}
 use Rattle.answers.proofs.groupable.Goals as goal
 

@@ -1,11 +1,9 @@
 -- `groupable` meets its contract: at each turn the whole answer is the answer for the uses that are left.
-use Rattle.answers.proofs.Kit.{ℕ, ◌-◌, ◌&&◌, Bool, sym, ◌∙◌, [], arith, rules, eqb, any, take, test, bound}
-use Rattle.answers.proofs.Kit.{rows_in, definitions_in, view_by, Some, some-begin, some_next, some-hits, some-ends}
+use Rattle.answers.proofs.Kit.{ℕ, ◌-◌, ◌&&◌, Bool, [], eqb, any, take, test}
+use Rattle.answers.proofs.Kit.{rows_in, definitions_in, view_by, Some}
 use Rattle.rules.specs.Permissions.{known, dangerous}
-use Rattle.rules.specs.Refusals.{groupable}
 use Rattle.state.specs.declared.Apps.{Apps}
 use Rattle.state.specs.declared.Definitions.{Definitions}
-use Rattle.answers.proofs.Sizes.{uses-long}
 use Rattle.answers.proofs.groupable.Given as goal
 
 abbrev pub of_group : Apps → Definitions → ℕ → ℕ → Bool

@@ -1,5 +1,4 @@
 -- `has_operation` meets its contract: each operation has its numbers.
-use Rattle.answers.proofs.Kit.{rules}
 use Rattle.rules.specs.Action.{carries}
 use Rattle.answers.proofs.has_operation.Goals as goal
 

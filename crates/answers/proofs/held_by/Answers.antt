@@ -1,5 +1,5 @@
 -- `held_by` meets its contract: the app at the place that is found is the first of that number.
-use Rattle.answers.proofs.Kit.{◌<◌, sym, ◌∙◌, arith, rules, test, is_app, Found, found, not_found, blank_app}
+use Rattle.answers.proofs.Kit.{◌<◌, sym, ◌∙◌, arith, test, is_app, Found, found, not_found, blank_app}
 use Rattle.answers.proofs.Kit.{app-found, app-missing, apps-long}
 use Rattle.answers.proofs.held_by.Goals as goal
 use Rattle.answers.proofs.held_by.Goals.{In-At}

@@ -1,5 +1,5 @@
 -- `in_group` meets its contract: the look tells the definition in force.
-use Rattle.answers.proofs.Kit.{sym, ◌∙◌, [], Option, test, rules, rows_in, definitions_in, view_by, look-found}
+use Rattle.answers.proofs.Kit.{sym, ◌∙◌, [], Option, test, rows_in, definitions_in, view_by, look-found}
 use Rattle.answers.proofs.Kit.{look_none}
 use Rattle.rules.specs.declared.Known.{Known}
 use Rattle.rules.specs.Permissions.{known}

@@ -1,5 +1,5 @@
 -- `install` meets its contract: the verdict tells whether the manifest is good, and where its sections stand.
-use Rattle.answers.proofs.Kit.{refl, sym, ◌∙◌, rules, refuses, passes}
+use Rattle.answers.proofs.Kit.{refl, sym, ◌∙◌, refuses, passes}
 use Rattle.rules.specs.Refusals.{refusals}
 use Rattle.rules.specs.Answer.{answer, ground_for, value_for}
 use Rattle.answers.specs.Installing.{admit}

@@ -1,5 +1,4 @@
 -- `is_crowded` meets its contract: the three counts are asked one after the other.
-use Rattle.answers.proofs.Kit.{rules}
 use Rattle.answers.specs.AnsweringLaws.{or-both}
 use Rattle.answers.proofs.is_crowded.Goals as goal
 

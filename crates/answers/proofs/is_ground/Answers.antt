@@ -1,5 +1,4 @@
 -- `is_ground` meets its contract: each ground has its answer.
-use Rattle.answers.proofs.Kit.{rules}
 use Rattle.rules.specs.Grounds.{is_ground}
 use Rattle.answers.proofs.is_ground.Goals as goal
 

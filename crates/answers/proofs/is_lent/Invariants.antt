@@ -1,10 +1,8 @@
 -- `is_lent` meets its contract: at each turn the whole answer is the answer for the loans that are left.
-use Rattle.answers.proofs.Kit.{◌-◌, ◌&&◌, refl, sym, ◌∙◌, arith, rules, take, op_of, bound, Some, some_as}
-use Rattle.answers.proofs.Kit.{some_next, some-hits, some-ends}
+use Rattle.answers.proofs.Kit.{◌-◌, ◌&&◌, take, op_of, Some}
 use Rattle.rules.specs.Action.{carries}
 use Rattle.state.specs.Tables.{is_loan, lent_in}
 use Rattle.answers.specs.Answering.{receiver_of}
-use Rattle.answers.specs.AnsweringLaws.{and_both}
 use Rattle.answers.proofs.is_lent.Given as goal
 
 abbrev pub invariant-loop-i : goal.invariant-loop-i

@@ -1,5 +1,4 @@
 -- `is_loan` meets its contract: it is the test itself, for each kind of receiver.
-use Rattle.answers.proofs.Kit.{rules}
 use Rattle.rules.specs.Action.{receiver_kind, receiver_number}
 use Rattle.state.specs.Tables.{is_to, is_on, is_loan}
 use Rattle.answers.proofs.is_loan.Goals as goal

@@ -1,9 +1,6 @@
 -- `is_running` meets its contract: at each turn the whole answer is the answer for the numbers that are left.
-use Rattle.answers.proofs.Kit.{◌≡◌, [], refl, sym, ◌∙◌, arith, rules, any, view_by, parts_in, instances_in}
-use Rattle.rules.specs.Lists.{upto}
-use Rattle.rules.specs.Limits.{large}
+use Rattle.answers.proofs.Kit.{refl, sym, ◌∙◌}
 use Rattle.rules.specs.Refusals.{is_running}
-use Rattle.answers.specs.Answering.{is_of}
 use Rattle.answers.specs.AnsweringLaws.{any-upto, none_left}
 use Rattle.answers.proofs.is_running.Goals as goal
 

@@ -1,5 +1,5 @@
 -- `lacks_ground` meets its contract: the two operations are asked one after the other.
-use Rattle.answers.proofs.Kit.{sym, ◌∙◌, rules}
+use Rattle.answers.proofs.Kit.{sym, ◌∙◌}
 use Rattle.answers.specs.GroundsLaws.{lacking-is}
 use Rattle.answers.proofs.lacks_ground.Goals as goal
 

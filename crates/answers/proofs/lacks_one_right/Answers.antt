@@ -1,5 +1,5 @@
 -- `lacks_one_right` meets its contract: where the operation is asked for, the way tells whether it has no ground.
-use Rattle.answers.proofs.Kit.{sym, ap, ◌∙◌, rules}
+use Rattle.answers.proofs.Kit.{sym, ap, ◌∙◌}
 use Rattle.rules.specs.Grounds.{right_of}
 use Rattle.answers.specs.Answering.{is_closed}
 use Rattle.answers.specs.GroundsLaws.{closed-way}

@@ -1,5 +1,5 @@
 -- `lend` meets its contract: the tests come in the order of the refusals.
-use Rattle.answers.proofs.Kit.{ℕ, ◌≡◌, ap, ◌∙◌, not, rules, leb, take, view_by, refuses, passes, ends}
+use Rattle.answers.proofs.Kit.{ℕ, ◌≡◌, ap, ◌∙◌, not, leb, take, view_by, refuses, passes, ends}
 use lib.ListN.{length}
 use Rattle.rules.specs.Action.{lend, on_loans}
 use Rattle.rules.specs.Grounds.{provider}

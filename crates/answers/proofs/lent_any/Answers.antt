@@ -1,5 +1,4 @@
 -- `lent_any` meets its contract: the two operations are asked one after the other.
-use Rattle.answers.proofs.Kit.{rules}
 use Rattle.answers.specs.AnsweringLaws.{or-both}
 use Rattle.answers.proofs.lent_any.Goals as goal
 

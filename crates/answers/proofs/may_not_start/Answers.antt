@@ -1,5 +1,5 @@
 -- `may_not_start` meets its contract: the search tells which component it is.
-use Rattle.answers.proofs.Kit.{sym, ◌∙◌, view_by, rules}
+use Rattle.answers.proofs.Kit.{sym, ◌∙◌, view_by}
 use Rattle.rules.specs.Grounds.{startable}
 use Rattle.state.specs.Tables.{view_of}
 use Rattle.state.specs.Stored.{model_of}

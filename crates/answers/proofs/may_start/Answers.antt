@@ -1,5 +1,5 @@
 -- `may_start` meets its contract: the owner first, then an exported component whose permission allows it.
-use Rattle.answers.proofs.Kit.{◌∙◌, eq-eqb, ne_eqb, rules}
+use Rattle.answers.proofs.Kit.{◌∙◌, eq-eqb, ne_eqb}
 use Rattle.rules.specs.Refusals.{app_may_start}
 use Rattle.answers.proofs.may_start.Goals as goal
 

@@ -1,5 +1,5 @@
 -- `no_app` meets its contract: an app is found in the table exactly if it is found among the rows.
-use Rattle.answers.proofs.Kit.{ap, ◌∙◌, not, missing, rules, apps_in, app-here}
+use Rattle.answers.proofs.Kit.{ap, ◌∙◌, not, missing, apps_in, app-here}
 use Rattle.answers.proofs.no_app.Goals as goal
 
 pub returns : goal.returns

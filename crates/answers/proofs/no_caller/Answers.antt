@@ -1,5 +1,5 @@
 -- `no_caller` meets its contract: only an instance has to run.
-use Rattle.answers.proofs.Kit.{◌∙◌, eq-eqb, ne_eqb, rules}
+use Rattle.answers.proofs.Kit.{◌∙◌, eq-eqb, ne_eqb}
 use Rattle.answers.proofs.no_caller.Goals as goal
 
 pub returns-then-caller-eq0 : goal.returns-then-caller-eq0

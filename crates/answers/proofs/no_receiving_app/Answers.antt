@@ -1,5 +1,5 @@
 -- `no_receiving_app` meets its contract: only an app has to be installed.
-use Rattle.answers.proofs.Kit.{ap, ◌∙◌, not, missing, rules, apps_in, view_by, app-here}
+use Rattle.answers.proofs.Kit.{ap, ◌∙◌, not, missing, apps_in, view_by, app-here}
 use Rattle.rules.specs.Refusals.{no_receiving_app}
 use Rattle.state.specs.Tables.{view_of}
 use Rattle.answers.proofs.no_receiving_app.Goals as goal

@@ -1,5 +1,5 @@
 -- `no_receiving_instance` meets its contract: only an instance has to run.
-use Rattle.answers.proofs.Kit.{ap, not, missing, rules}
+use Rattle.answers.proofs.Kit.{ap, not, missing}
 use Rattle.rules.specs.Refusals.{no_receiving_instance}
 use Rattle.answers.proofs.no_receiving_instance.Goals as goal
 

@@ -1,5 +1,5 @@
 -- `no_resource` meets its contract: a resource is found in the table exactly if it has a stored value.
-use Rattle.answers.proofs.Kit.{ap, ◌∙◌, not, missing, rules, value-here}
+use Rattle.answers.proofs.Kit.{ap, ◌∙◌, not, missing, value-here}
 use Rattle.answers.proofs.no_resource.Goals as goal
 
 pub returns : goal.returns

@@ -1,6 +1,6 @@
 -- `not_grantable` meets its contract: the app at the place that is found is the first of that number, and the look
 -- tells the definition in force.
-use Rattle.answers.proofs.Kit.{◌<◌, sym, ◌∙◌, arith, rules, test, is_app, Found, found, not_found, blank_app}
+use Rattle.answers.proofs.Kit.{◌<◌, sym, ◌∙◌, arith, test, is_app, Found, found, not_found, blank_app}
 use Rattle.answers.proofs.Kit.{app-found, app-missing, apps-long}
 use Rattle.answers.proofs.Kit.{[], Option, rows_in, definitions_in, view_by, look-found, look_none}
 use Rattle.rules.specs.declared.Known.{Known}

@@ -1,5 +1,5 @@
 -- `not_groupable` meets its contract: the app at the place that is found is the first of that number.
-use Rattle.answers.proofs.Kit.{◌<◌, sym, ◌∙◌, arith, rules, test, is_app, Found, found, not_found, blank_app}
+use Rattle.answers.proofs.Kit.{◌<◌, sym, ◌∙◌, arith, test, is_app, Found, found, not_found, blank_app}
 use Rattle.answers.proofs.Kit.{app-found, app-missing, apps-long}
 use Rattle.answers.proofs.not_groupable.Goals as goal
 use Rattle.answers.proofs.not_groupable.Goals.{In-At}

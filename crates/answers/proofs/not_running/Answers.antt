@@ -1,5 +1,5 @@
 -- `not_running` meets its contract: the place of the app of a running instance is found exactly if it runs.
-use Rattle.answers.proofs.Kit.{sym, ◌∙◌, rules}
+use Rattle.answers.proofs.Kit.{sym, ◌∙◌}
 use Rattle.answers.specs.GroundsLaws.{runs-at, runs-nowhere, gone, there}
 use Rattle.answers.proofs.not_running.Goals as goal
 

@@ -1,5 +1,5 @@
 -- `not_sharing` meets its contract: the search tells which provider it is.
-use Rattle.answers.proofs.Kit.{sym, ◌∙◌, test, rules}
+use Rattle.answers.proofs.Kit.{sym, ◌∙◌, test}
 use Rattle.answers.specs.GroundsLaws.{installed-found, installed-none}
 use Rattle.answers.proofs.not_sharing.Goals as goal
 

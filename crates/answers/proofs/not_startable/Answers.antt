@@ -1,5 +1,5 @@
 -- `not_startable` meets its contract: the search tells whether there is one.
-use Rattle.answers.proofs.Kit.{sym, ◌∙◌, rules}
+use Rattle.answers.proofs.Kit.{sym, ◌∙◌}
 use Rattle.answers.specs.GroundsLaws.{installed-found, installed-none, gone, there}
 use Rattle.answers.proofs.not_startable.Goals as goal
 

@@ -1,5 +1,5 @@
 -- `owned_by` meets its contract: the component at the place that is found is the first of its number.
-use Rattle.answers.proofs.Kit.{◌<◌, sym, ◌∙◌, arith, rules, is_part, Found, found, not_found, parts-long, test}
+use Rattle.answers.proofs.Kit.{◌<◌, sym, ◌∙◌, arith, is_part, Found, found, not_found, parts-long, test}
 use Rattle.answers.proofs.Kit.{view_by}
 use Rattle.state.specs.Stored.{zero_part}
 use Rattle.state.specs.Tables.{part_at, view_of}

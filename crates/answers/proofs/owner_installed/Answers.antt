@@ -1,5 +1,5 @@
 -- `owner_installed` meets its contract: the component at the place that is found is the first of its number.
-use Rattle.answers.proofs.Kit.{◌<◌, sym, ◌∙◌, arith, rules, is_part, Found, found, not_found, parts-long, get_or}
+use Rattle.answers.proofs.Kit.{◌<◌, sym, ◌∙◌, arith, is_part, Found, found, not_found, parts-long, get_or}
 use Rattle.answers.proofs.Kit.{is_some, bind, view_by, apps_in, app-here}
 use Rattle.state.specs.Stored.{zero_part}
 use Rattle.state.specs.Tables.{part_at, view_of}

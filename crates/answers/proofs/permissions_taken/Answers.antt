@@ -1,14 +1,8 @@
 -- `permissions_taken` meets its contract: at each turn the whole answer is the answer for the entries that are left.
-use Rattle.answers.proofs.Kit.{◌≡◌, ◌+◌, Bool, [], refl, sym, ◌∙◌, arith, rules, any, is_some, rows_in}
-use Rattle.answers.proofs.Kit.{definitions_in, view_by}
-use Prim.Native.Nat.{◌*◌}
-use Rattle.manifest.specs.declared.Define.{Define}
-use Rattle.manifest.specs.Layout.{define_at, entries}
+use Rattle.answers.proofs.Kit.{◌≡◌, refl, sym, ◌∙◌, arith}
+use Rattle.manifest.specs.Layout.{define_at}
 use Rattle.manifest.specs.Verdict.{zero_define}
 use Rattle.manifest.proofs.Turns.{any-on, any_here, any_none}
-use Rattle.rules.specs.Permissions.{known}
-use Rattle.state.specs.declared.Apps.{Apps}
-use Rattle.state.specs.declared.Definitions.{Definitions}
 use Rattle.answers.specs.InstallingLaws.{entry-there}
 use Rattle.answers.proofs.permissions_taken.Goals as goal
 use Rattle.answers.proofs.permissions_taken.Goals.{After-define_at-p}
@@ -29,12 +23,11 @@ returns-then-defined c =
     ∙ any_here _ 3 _ _ _ c.loop-left-test.true (entry (goal.at.returns-then-defined c).After-define_at-p) c.defined.ensures c.if-defined.true)
 
 pub loop-left-preserved : goal.loop-left-preserved
-loop-left-preserved c =
-    (
-      omega arith,
-      c.loop-left.invariant.1
-          ∙ any-on _ 3 _ _ _ c.loop-left-test.true (entry (goal.at.loop-left-preserved c).After-define_at-p) c.defined.ensures c.if-defined.false,
-    )
+loop-left-preserved c = (
+  omega arith,
+  c.loop-left.invariant.1
+      ∙ any-on _ 3 _ _ _ c.loop-left-test.true (entry (goal.at.loop-left-preserved c).After-define_at-p) c.defined.ensures c.if-defined.false,
+)
 
 pub returns : goal.returns
 returns c = sym (c.loop-left.invariant.1 ∙ any_none _ 3 _ _ _ c.loop-left-test.false)

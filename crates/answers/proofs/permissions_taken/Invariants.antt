@@ -1,15 +1,12 @@
 -- `permissions_taken` meets its contract: at each turn the whole answer is the answer for the entries that are left.
-use Rattle.answers.proofs.Kit.{◌≡◌, ◌+◌, Bool, [], refl, sym, ◌∙◌, arith, rules, any, is_some, rows_in}
+use Rattle.answers.proofs.Kit.{◌≡◌, ◌+◌, Bool, [], any, is_some, rows_in}
 use Rattle.answers.proofs.Kit.{definitions_in, view_by}
 use Prim.Native.Nat.{◌*◌}
 use Rattle.manifest.specs.declared.Define.{Define}
 use Rattle.manifest.specs.Layout.{define_at, entries}
-use Rattle.manifest.specs.Verdict.{zero_define}
-use Rattle.manifest.proofs.Turns.{any-on, any_here, any_none}
 use Rattle.rules.specs.Permissions.{known}
 use Rattle.state.specs.declared.Apps.{Apps}
 use Rattle.state.specs.declared.Definitions.{Definitions}
-use Rattle.answers.specs.InstallingLaws.{entry-there}
 use Rattle.answers.proofs.permissions_taken.Given as goal
 
 abbrev pub taken : Apps → Definitions → Define → Bool

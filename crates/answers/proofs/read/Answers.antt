@@ -1,5 +1,4 @@
 -- `read` meets its contract: it is an access.
-use Rattle.answers.proofs.Kit.{rules}
 use Rattle.rules.specs.Refusals.{refusals}
 use Rattle.rules.specs.Answer.{answer, ground_for, value_for}
 use Rattle.answers.specs.Answering.{access_in}

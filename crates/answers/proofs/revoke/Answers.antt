@@ -1,5 +1,5 @@
 -- `revoke` meets its contract: the tests come in the order of the refusals.
-use Rattle.answers.proofs.Kit.{ℕ, [], ap, ◌∙◌, not, rules, view_by, refuses, passes, ends}
+use Rattle.answers.proofs.Kit.{ℕ, [], ap, ◌∙◌, not, view_by, refuses, passes, ends}
 use Rattle.rules.specs.Action.{revoke, on_grants}
 use Rattle.rules.specs.Permissions.{known}
 use Rattle.rules.specs.Refusals.{refusals}

@@ -1,5 +1,5 @@
 -- `revoke_group` meets its contract: the tests come in the order of the refusals.
-use Rattle.answers.proofs.Kit.{ℕ, [], ap, ◌∙◌, not, rules, refuses, passes, ends}
+use Rattle.answers.proofs.Kit.{ℕ, [], ap, ◌∙◌, not, refuses, passes, ends}
 use Rattle.rules.specs.Action.{revoke_group, on_grants}
 use Rattle.rules.specs.Refusals.{refusals}
 use Rattle.rules.specs.Answer.{answer, ground_for, value_for}

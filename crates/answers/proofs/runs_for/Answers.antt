@@ -1,5 +1,5 @@
 -- `runs_for` meets its contract: the instance at the place that is found is the first of its number.
-use Rattle.answers.proofs.Kit.{◌<◌, sym, ◌∙◌, arith, rules, test, map_option, view_by, is_instance, Found, found}
+use Rattle.answers.proofs.Kit.{◌<◌, sym, ◌∙◌, arith, test, map_option, view_by, is_instance, Found, found}
 use Rattle.answers.proofs.Kit.{not_found, instances-long}
 use Rattle.state.specs.Stored.{zero_instance}
 use Rattle.state.specs.Tables.{run_in, view_of}

@@ -1,5 +1,5 @@
 -- `start` meets its contract: the tests come in the order of the refusals.
-use Rattle.answers.proofs.Kit.{◌≡◌, [], sym, refl, ap, ◌∙◌, rules, missing, or_else, view_by, refuses}
+use Rattle.answers.proofs.Kit.{◌≡◌, [], sym, refl, ap, ◌∙◌, missing, or_else, view_by, refuses}
 use Rattle.answers.proofs.Kit.{passes, ends}
 use mathlib.Core.List.{◌∷◌}
 use Rattle.rules.specs.Grounds.{startable, running_app}

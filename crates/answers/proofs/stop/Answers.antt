@@ -1,5 +1,5 @@
 -- `stop` meets its contract: an instance is found in the table exactly if it runs.
-use Rattle.answers.proofs.Kit.{ap, ◌∙◌, not, missing, rules, refuses, passes, ends, run-here}
+use Rattle.answers.proofs.Kit.{ap, ◌∙◌, not, missing, refuses, passes, ends, run-here}
 use Rattle.rules.specs.Refusals.{refusals}
 use Rattle.rules.specs.Answer.{answer, ground_for, value_for}
 use Rattle.state.specs.Tables.{view_of}

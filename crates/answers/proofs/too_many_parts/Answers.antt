@@ -1,5 +1,5 @@
 -- `too_many_parts` meets its contract: the table holds as many components as its list has.
-use Rattle.answers.proofs.Kit.{◌+◌, ap, ltb, parts-long, rules}
+use Rattle.answers.proofs.Kit.{◌+◌, ap, ltb, parts-long}
 use Rattle.answers.specs.InstallingLaws.{held}
 use Rattle.answers.proofs.too_many_parts.Goals as goal
 

@@ -1,5 +1,5 @@
 -- `too_many_resources` meets its contract: the table holds as many resources as its list has.
-use Rattle.answers.proofs.Kit.{◌+◌, ap, ltb, resources-long, rules}
+use Rattle.answers.proofs.Kit.{◌+◌, ap, ltb, resources-long}
 use Rattle.answers.specs.InstallingLaws.{held}
 use Rattle.answers.proofs.too_many_resources.Goals as goal
 

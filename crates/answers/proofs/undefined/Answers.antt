@@ -1,5 +1,5 @@
 -- `undefined` meets its contract: a look at the definitions tells whether there is one in force.
-use Rattle.answers.proofs.Kit.{sym, ◌∙◌, [], Option, missing, is_some, rules, rows_in, definitions_in, view_by}
+use Rattle.answers.proofs.Kit.{sym, ◌∙◌, [], Option, missing, is_some, rows_in, definitions_in, view_by}
 use Rattle.answers.proofs.Kit.{look-found, look_none}
 use Rattle.rules.specs.declared.Known.{Known}
 use Rattle.rules.specs.Permissions.{known}

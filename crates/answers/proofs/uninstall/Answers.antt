@@ -1,5 +1,5 @@
 -- `uninstall` meets its contract: the tests come in the order of the refusals.
-use Rattle.answers.proofs.Kit.{ℕ, [], ◌∙◌, rules, view_by, refuses, passes, ends}
+use Rattle.answers.proofs.Kit.{ℕ, [], ◌∙◌, view_by, refuses, passes, ends}
 use Rattle.rules.specs.Action.{uninstall, on_apps}
 use Rattle.rules.specs.Refusals.{is_running, refusals}
 use Rattle.rules.specs.Answer.{answer, ground_for, value_for}

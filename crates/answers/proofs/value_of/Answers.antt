@@ -1,5 +1,5 @@
 -- `value_of` meets its contract: the resource at the place that is found is the first of its provider and uri.
-use Rattle.answers.proofs.Kit.{◌<◌, sym, ◌∙◌, arith, rules, map_option, Found, found, not_found, resources-long}
+use Rattle.answers.proofs.Kit.{◌<◌, sym, ◌∙◌, arith, map_option, Found, found, not_found, resources-long}
 use Rattle.state.specs.Stored.{zero_resource}
 use Rattle.state.specs.Tables.{is_resource, value_in}
 use Rattle.answers.specs.Answering.{stored_of}

@@ -1,5 +1,5 @@
 -- `way_to` meets its contract: provider and app are those that the searches find.
-use Rattle.answers.proofs.Kit.{◌<◌, sym, ◌∙◌, arith, rules, view_by}
+use Rattle.answers.proofs.Kit.{◌<◌, sym, ◌∙◌, arith, view_by}
 use Rattle.rules.specs.Grounds.{provider, running_app}
 use Rattle.state.specs.Tables.{view_of}
 use Rattle.state.specs.Stored.{model_of}

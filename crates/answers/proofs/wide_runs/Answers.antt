@@ -1,5 +1,5 @@
 -- `wide_runs` meets its contract: the instance at the place that is found is the first of its number.
-use Rattle.answers.proofs.Kit.{◌<◌, sym, ◌∙◌, arith, rules, is_some, bind, map_option, view_by, is_instance, Found}
+use Rattle.answers.proofs.Kit.{◌<◌, sym, ◌∙◌, arith, is_some, bind, map_option, view_by, is_instance, Found}
 use Rattle.answers.proofs.Kit.{found, not_found, instances-long}
 use Rattle.rules.specs.Grounds.{running_app}
 use Rattle.state.specs.Stored.{zero_instance}

@@ -1,5 +1,5 @@
 -- `withdraw` meets its contract: the tests come in the order of the refusals.
-use Rattle.answers.proofs.Kit.{ℕ, [], ◌∙◌, rules, view_by, refuses, passes, ends}
+use Rattle.answers.proofs.Kit.{ℕ, [], ◌∙◌, view_by, refuses, passes, ends}
 use Rattle.rules.specs.Action.{withdraw, on_loans}
 use Rattle.rules.specs.Grounds.{provider, running_app}
 use Rattle.rules.specs.Refusals.{refusals}

@@ -1,5 +1,5 @@
 -- `write` meets its contract: it is an access whose value is the one written.
-use Rattle.answers.proofs.Kit.{ap, sym, ◌∙◌, rules}
+use Rattle.answers.proofs.Kit.{ap, sym, ◌∙◌}
 use Rattle.rules.specs.Refusals.{refusals}
 use Rattle.rules.specs.Answer.{answer, ground_for, value_for}
 use Rattle.answers.specs.Answering.{access_in}

@@ -3,7 +3,7 @@ use Rattle.state.specs.Stored.{row_of}
 use Rattle.tables.specs.Held.{rows_in, definitions_in}
 use Rattle.device.specs.Tests.{good_grant_in, good_grant_by}
 use Rattle.device.specs.GrantLaws.{same-grants}
-use Rattle.device.proofs.Kit.{Bool, List, ◌≡◌, ◌∙◌, ap, all, rules, Holds, holds, fails}
+use Rattle.device.proofs.Kit.{Bool, List, ◌≡◌, ◌∙◌, ap, all, Holds, holds, fails}
 use Rattle.device.proofs.app_good.Goals as goal
 use Rattle.device.proofs.app_good.Goals.{After-grants_good, Else-not-manifest_good}
 

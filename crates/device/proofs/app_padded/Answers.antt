@@ -1,6 +1,6 @@
 -- Each of the three arrays has the length that its test asks for.
 use Rattle.state.specs.Stored.{pads, is_zero}
-use Rattle.device.proofs.Kit.{ℕ, Bool, List, ◌≡◌, ◌∙◌, sym, ap, rules, length, length-map}
+use Rattle.device.proofs.Kit.{ℕ, Bool, List, ◌≡◌, ◌∙◌, ap, length}
 use Rattle.device.proofs.app_padded.Goals as goal
 use Rattle.device.proofs.app_padded.Goals.{Start}
 

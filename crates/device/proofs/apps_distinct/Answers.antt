@@ -2,10 +2,10 @@
 use Rattle.state.specs.Valid.{same_app}
 use Rattle.state.specs.Stored.{row_of}
 use Rattle.rules.specs.ListsLaws.{distinct-image}
-use Rattle.device.proofs.Kit.{◌+◌, ◌-◌, ◌≡◌, ◌∙◌, sym, arith, length, length-map, slice, take, any, distinct}
+use Rattle.device.proofs.Kit.{◌≡◌, ◌∙◌, sym, arith, length}
 use Rattle.device.proofs.Kit.{eq-eqb, ne_eqb}
-use Rattle.device.proofs.Kit.{Some, some-from, some_next, some-hits, some-ends}
-use Rattle.device.proofs.Kit.{Pairs, pairs-from, pairs_next, pairs-fails, pairs-ends}
+use Rattle.device.proofs.Kit.{some-from, some_next, some-hits, some-ends}
+use Rattle.device.proofs.Kit.{pairs-from, pairs_next, pairs-fails, pairs-ends}
 use Rattle.device.proofs.apps_distinct.Goals as goal
 use Rattle.device.proofs.apps_distinct.Goals.{Start}
 

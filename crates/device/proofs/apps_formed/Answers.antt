@@ -1,7 +1,7 @@
 -- The tests are made in the order of the definition, and the first that fails answers.
 use Rattle.state.specs.Stored.{is_zero_app}
 use Rattle.device.specs.StoredLaws.{pads-room}
-use Rattle.device.proofs.Kit.{◌∙◌, rules, holds, fails}
+use Rattle.device.proofs.Kit.{◌∙◌, holds, fails}
 use Rattle.device.proofs.apps_formed.Goals as goal
 
 pub returns-then-not-apps_padded : goal.returns-then-not-apps_padded

@@ -1,12 +1,10 @@
 -- The loop tests every app up to the count, or finds one that fails.
 use Rattle.rules.specs.ListsLaws.{all_map}
 use Rattle.state.specs.Stored.{row_of, app_pads}
-use Rattle.tables.specs.Held.{rows_in, definitions_in, parts_in, resources_in}
 use Rattle.tables.specs.LookingLaws.{blank_app}
-use Rattle.device.specs.Tests.{good_row}
 use Rattle.device.specs.StoredLaws.{all-get}
-use Rattle.device.proofs.Kit.{◌-◌, ◌≡◌, ◌∙◌, sym, arith, rules, length, length-map, take, all}
-use Rattle.device.proofs.Kit.{Each, each_from, each_next, each-fails, each-ends}
+use Rattle.device.proofs.Kit.{◌≡◌, ◌∙◌, sym, arith, length}
+use Rattle.device.proofs.Kit.{each_from, each_next, each-fails, each-ends}
 use Rattle.device.proofs.apps_good.Goals as goal
 use Rattle.device.proofs.apps_good.Goals.{Start}
 
@@ -22,8 +20,8 @@ app_good-requires c =
     record {
       apps_ready = c.requires;
       a_value = all-get app_pads c.args.apps.entries c.args.apps.count c.loop-i.i blank_app
-            c.requires.lists
-            c.loop-i-test.true (omega (arith, long (goal.at.app_good-requires c).Start, c.requires.apps_count, c.loop-i-test.true));
+          c.requires.lists
+          c.loop-i-test.true (omega (arith, long (goal.at.app_good-requires c).Start, c.requires.apps_count, c.loop-i-test.true));
       owners_value = c.owners_of-owners.ensures;
       dangerous_value = c.dangerous_in-dangerous.ensures;
     }

@@ -2,8 +2,8 @@
 use Rattle.state.specs.Tables.{app_number}
 use Rattle.state.specs.Stored.{row_of}
 use Rattle.rules.specs.ListsLaws.{all_map}
-use Rattle.device.proofs.Kit.{◌≡◌, ◌∙◌, sym, ◌-◌, arith, length, length-map, take, all, ltb, lt-ltb, le-ltb}
-use Rattle.device.proofs.Kit.{Each, each_from, each_next, each-fails, each-ends}
+use Rattle.device.proofs.Kit.{◌≡◌, ◌∙◌, sym, arith, length, ltb, lt-ltb, le-ltb}
+use Rattle.device.proofs.Kit.{each_from, each_next, each-fails, each-ends}
 use Rattle.device.proofs.apps_numbered.Goals as goal
 use Rattle.device.proofs.apps_numbered.Goals.{Start}
 

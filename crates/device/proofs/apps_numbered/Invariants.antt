@@ -1,9 +1,8 @@
 -- The loop tests every number up to the count, or finds one that is zero.
 use Rattle.state.specs.Tables.{app_number}
 use Rattle.state.specs.Stored.{row_of}
-use Rattle.rules.specs.ListsLaws.{all_map}
-use Rattle.device.proofs.Kit.{◌≡◌, ◌∙◌, sym, ◌-◌, arith, length, length-map, take, all, ltb, lt-ltb, le-ltb}
-use Rattle.device.proofs.Kit.{Each, each_from, each_next, each-fails, each-ends}
+use Rattle.device.proofs.Kit.{◌-◌, take, all, ltb}
+use Rattle.device.proofs.Kit.{Each}
 use Rattle.device.proofs.apps_numbered.Given as goal
 
 abbrev pub invariant-loop-i : goal.invariant-loop-i

@@ -1,6 +1,5 @@
 -- The loop tests every byte up to the count, or finds one that fails.
-use Rattle.rules.specs.Refusals.{is_group}
-use Rattle.device.proofs.Kit.{◌∙◌, sym, ◌-◌, arith, rules, take, all, Each, each_from, each_next, each-fails}
+use Rattle.device.proofs.Kit.{◌∙◌, sym, arith, each_from, each_next, each-fails}
 use Rattle.device.proofs.Kit.{each-ends}
 use Rattle.device.proofs.bytes_are_groups.Goals as goal
 

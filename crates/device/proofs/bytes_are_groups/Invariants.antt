@@ -1,7 +1,6 @@
 -- The loop tests every byte up to the count, or finds one that fails.
 use Rattle.rules.specs.Refusals.{is_group}
-use Rattle.device.proofs.Kit.{◌∙◌, sym, ◌-◌, arith, rules, take, all, Each, each_from, each_next, each-fails}
-use Rattle.device.proofs.Kit.{each-ends}
+use Rattle.device.proofs.Kit.{◌-◌, take, all, Each}
 use Rattle.device.proofs.bytes_are_groups.Given as goal
 
 abbrev pub invariant-loop-i : goal.invariant-loop-i

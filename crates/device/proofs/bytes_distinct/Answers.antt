@@ -1,7 +1,7 @@
 -- The inner loop looks for an entry again among those after it; the outer one goes on where there is none.
-use Rattle.device.proofs.Kit.{◌+◌, ◌-◌, sym, arith, slice, take, any, distinct, eqb, eq-eqb, ne_eqb}
-use Rattle.device.proofs.Kit.{Some, some-from, some_next, some-hits, some-ends}
-use Rattle.device.proofs.Kit.{Pairs, pairs-from, pairs_next, pairs-fails, pairs-ends}
+use Rattle.device.proofs.Kit.{sym, arith, eq-eqb, ne_eqb}
+use Rattle.device.proofs.Kit.{some-from, some_next, some-hits, some-ends}
+use Rattle.device.proofs.Kit.{pairs-from, pairs_next, pairs-fails, pairs-ends}
 use Rattle.device.proofs.bytes_distinct.Goals as goal
 
 pub loop-i-init : goal.loop-i-init

@@ -1,7 +1,7 @@
 -- Past the count the loop finds zeros up to the end of the slice, or a byte that is not zero.
 use Rattle.state.specs.Stored.{is_zero}
-use Rattle.device.proofs.Kit.{◌-◌, refl, arith, length, slice, all, eq-eqb, ne_eqb, pads-within, pads-past}
-use Rattle.device.proofs.Kit.{Each, each_from, each_next, each-fails, each-ends}
+use Rattle.device.proofs.Kit.{refl, arith, eq-eqb, ne_eqb, pads-within, pads-past}
+use Rattle.device.proofs.Kit.{each_from, each_next, each-fails, each-ends}
 use Rattle.device.proofs.bytes_padded.Goals as goal
 
 pub returns-then-s-n : goal.returns-then-s-n

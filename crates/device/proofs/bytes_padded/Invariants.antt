@@ -1,7 +1,7 @@
 -- Past the count the loop finds zeros up to the end of the slice, or a byte that is not zero.
 use Rattle.state.specs.Stored.{is_zero}
-use Rattle.device.proofs.Kit.{◌-◌, refl, arith, length, slice, all, eq-eqb, ne_eqb, pads-within, pads-past}
-use Rattle.device.proofs.Kit.{Each, each_from, each_next, each-fails, each-ends}
+use Rattle.device.proofs.Kit.{◌-◌, length, slice, all}
+use Rattle.device.proofs.Kit.{Each}
 use Rattle.device.proofs.bytes_padded.Given as goal
 
 abbrev pub invariant-loop-i : goal.invariant-loop-i

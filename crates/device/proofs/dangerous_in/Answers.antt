@@ -2,9 +2,9 @@
 use Rattle.state.specs.Stored.{padded}
 use Rattle.tables.specs.Held.{rows_in, definitions_in}
 use Rattle.device.specs.Tests.{is_dangerous, numbers_from}
-use Rattle.device.specs.PartLaws.{Filled, filled-begin, filled_next}
+use Rattle.device.specs.PartLaws.{filled-begin, filled_next}
 use Rattle.device.specs.GrantLaws.{number_at}
-use Rattle.device.proofs.Kit.{ℕ, ◌-◌, ◌≡◌, ◌∙◌, sym, ap, map, take, false, arith, rules}
+use Rattle.device.proofs.Kit.{ℕ, ◌≡◌, ◌∙◌, sym, ap, map, take, false, arith}
 use Rattle.device.proofs.dangerous_in.Goals as goal
 
 pub loop-p-init : goal.loop-p-init

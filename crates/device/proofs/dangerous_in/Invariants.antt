@@ -1,10 +1,8 @@
 -- The loop fills the array from the front with what is asked of each permission.
-use Rattle.state.specs.Stored.{padded}
 use Rattle.tables.specs.Held.{rows_in, definitions_in}
 use Rattle.device.specs.Tests.{is_dangerous, numbers_from}
-use Rattle.device.specs.PartLaws.{Filled, filled-begin, filled_next}
-use Rattle.device.specs.GrantLaws.{number_at}
-use Rattle.device.proofs.Kit.{ℕ, ◌-◌, ◌≡◌, ◌∙◌, sym, ap, map, take, false, arith, rules}
+use Rattle.device.specs.PartLaws.{Filled}
+use Rattle.device.proofs.Kit.{◌-◌, false}
 use Rattle.device.proofs.dangerous_in.Given as goal
 
 abbrev pub invariant-loop-p : goal.invariant-loop-p

@@ -1,9 +1,9 @@
 -- The inner loop looks for an entry again among those after it; the outer one goes on where there is none.
 use Rattle.state.specs.Valid.{same_permission}
-use Rattle.device.proofs.Kit.{◌+◌, ◌-◌, ◌≡◌, ◌∙◌, sym, arith, length, length-map, slice, take, any, distinct}
-use Rattle.device.proofs.Kit.{eqb, eq-eqb, ne_eqb}
-use Rattle.device.proofs.Kit.{Some, some-from, some_next, some-hits, some-ends}
-use Rattle.device.proofs.Kit.{Pairs, pairs-from, pairs_next, pairs-fails, pairs-ends}
+use Rattle.device.proofs.Kit.{◌+◌, ◌-◌, slice, take, any, distinct}
+use Rattle.device.proofs.Kit.{eqb}
+use Rattle.device.proofs.Kit.{Some}
+use Rattle.device.proofs.Kit.{Pairs}
 use Rattle.device.proofs.definitions_distinct.Given as goal
 
 abbrev pub invariant-loop-j : goal.invariant-loop-j

@@ -1,8 +1,7 @@
 -- The loop finds the app of every definition up to the count, or one whose app is not installed.
 use Rattle.state.specs.Valid.{is_installed}
 use Rattle.tables.specs.Held.{rows_in}
-use Rattle.device.proofs.Kit.{◌≡◌, ◌∙◌, sym, ◌-◌, arith, rules, length, length-map, take, all, Each, each_from}
-use Rattle.device.proofs.Kit.{each_next, each-fails, each-ends}
+use Rattle.device.proofs.Kit.{◌-◌, take, all, Each}
 use Rattle.device.proofs.definitions_owned.Given as goal
 
 abbrev pub invariant-loop-i : goal.invariant-loop-i

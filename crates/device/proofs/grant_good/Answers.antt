@@ -1,7 +1,7 @@
 -- A permission past the end of the list is not on it.
 use lib.ListN.{get_or-eq_default}
 use Rattle.rules.specs.ListsLaws.{and-false}
-use Rattle.device.proofs.Kit.{◌≡◌, false, arith, rules, length}
+use Rattle.device.proofs.Kit.{◌≡◌, false, arith, length}
 use Rattle.device.proofs.grant_good.Goals as goal
 use Rattle.device.proofs.grant_good.Goals.{Start}
 

@@ -1,9 +1,8 @@
 -- The loop tests every grant up to the count, or finds one that fails.
 use Rattle.state.specs.Stored.{row_of}
 use Rattle.device.specs.Tests.{good_grant_by}
-use Rattle.device.specs.StoredLaws.{app-counts}
-use Rattle.device.proofs.Kit.{◌≤◌, ◌-◌, ◌≡◌, ◌∙◌, sym, arith, rules, length, length-map, take, all}
-use Rattle.device.proofs.Kit.{Each, each_from, each_next, each-fails, each-ends}
+use Rattle.device.proofs.Kit.{◌-◌, take, all}
+use Rattle.device.proofs.Kit.{Each}
 use Rattle.device.proofs.grants_good.Given as goal
 
 abbrev pub invariant-loop-i : goal.invariant-loop-i

@@ -3,7 +3,7 @@ use Rattle.rules.specs.ListsLaws.{any-map}
 use Rattle.state.specs.Tables.{app_number}
 use Rattle.state.specs.Stored.{row_of}
 use Rattle.tables.specs.Held.{apps_in}
-use Rattle.device.proofs.Kit.{◌∙◌, sym, rules, eqb}
+use Rattle.device.proofs.Kit.{◌∙◌, sym, eqb}
 use Rattle.device.proofs.installed.Goals as goal
 
 pub returns : goal.returns

@@ -2,7 +2,7 @@
 use Rattle.manifest.specs.Good.{is_provider}
 use Rattle.tables.specs.Held.{parts_in}
 use Rattle.device.specs.PartLaws.{part-test}
-use Rattle.device.proofs.Kit.{not, rules}
+use Rattle.device.proofs.Kit.{not}
 use Rattle.device.proofs.instance_good.Goals as goal
 
 pub returns : goal.returns

@@ -1,7 +1,5 @@
 -- The loop tests every instance up to the count, or finds one that fails.
-use Rattle.tables.specs.Held.{parts_in}
-use Rattle.device.specs.Tests.{good_instance}
-use Rattle.device.proofs.Kit.{◌≡◌, ◌∙◌, sym, ◌-◌, arith, rules, length, length-map, take, all, Each, each_from}
+use Rattle.device.proofs.Kit.{◌≡◌, ◌∙◌, sym, arith, length, each_from}
 use Rattle.device.proofs.Kit.{each_next, each-fails, each-ends}
 use Rattle.device.proofs.instances_good.Goals as goal
 use Rattle.device.proofs.instances_good.Goals.{Start}

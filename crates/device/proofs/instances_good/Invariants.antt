@@ -1,8 +1,7 @@
 -- The loop tests every instance up to the count, or finds one that fails.
 use Rattle.tables.specs.Held.{parts_in}
 use Rattle.device.specs.Tests.{good_instance}
-use Rattle.device.proofs.Kit.{◌≡◌, ◌∙◌, sym, ◌-◌, arith, rules, length, length-map, take, all, Each, each_from}
-use Rattle.device.proofs.Kit.{each_next, each-fails, each-ends}
+use Rattle.device.proofs.Kit.{◌-◌, take, all, Each}
 use Rattle.device.proofs.instances_good.Given as goal
 
 abbrev pub invariant-loop-i : goal.invariant-loop-i

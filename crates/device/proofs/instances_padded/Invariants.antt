@@ -1,7 +1,6 @@
 -- Past the count the loop finds zeros up to the end of the array, or a place that is not zero.
 use Rattle.state.specs.Stored.{is_zero_instance}
-use Rattle.device.proofs.Kit.{◌≡◌, ◌∙◌, sym, ◌-◌, arith, rules, length, length-map, slice, all, Each, each_from}
-use Rattle.device.proofs.Kit.{each_next, each-fails, each-ends, pads-within, pads-past}
+use Rattle.device.proofs.Kit.{◌-◌, slice, all, Each}
 use Rattle.device.proofs.instances_padded.Given as goal
 
 abbrev pub invariant-loop-i : goal.invariant-loop-i

@@ -4,7 +4,7 @@ use Rattle.rules.specs.Permissions.{known}
 use Rattle.tables.specs.Looking.{view_by}
 use Rattle.tables.specs.LookingLaws.{look-found, look_none}
 use Rattle.tables.specs.Held.{rows_in, definitions_in}
-use Rattle.device.proofs.Kit.{Option, [], ◌∙◌, sym, rules, test}
+use Rattle.device.proofs.Kit.{Option, [], ◌∙◌, sym, test}
 use Rattle.device.proofs.is_dangerous.Goals as goal
 use Rattle.device.proofs.is_dangerous.Goals.{Start}
 

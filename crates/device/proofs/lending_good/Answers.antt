@@ -1,5 +1,5 @@
 -- The tests are made in the order of the definition, and the first that fails answers.
-use Rattle.device.proofs.Kit.{◌∙◌, rules, holds, fails}
+use Rattle.device.proofs.Kit.{◌∙◌, holds, fails}
 use Rattle.device.proofs.lending_good.Goals as goal
 
 pub returns-then-not-loans_good : goal.returns-then-not-loans_good

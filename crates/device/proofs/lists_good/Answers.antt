@@ -1,6 +1,6 @@
 -- Each test is the definition's, and each count is within its array.
 use Rattle.device.specs.StoredLaws.{app-counts}
-use Rattle.device.proofs.Kit.{◌≤◌, ◌≡◌, ◌∙◌, sym, arith, rules, length, length-map}
+use Rattle.device.proofs.Kit.{◌≤◌, ◌≡◌, arith, length}
 use Rattle.device.proofs.lists_good.Goals as goal
 use Rattle.device.proofs.lists_good.Goals.{Start}
 

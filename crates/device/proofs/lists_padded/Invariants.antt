@@ -1,7 +1,6 @@
 -- The loop tests every app up to the count, or finds one whose lists are not padded.
 use Rattle.state.specs.Stored.{app_pads}
-use Rattle.device.proofs.Kit.{◌≡◌, ◌∙◌, sym, ◌-◌, arith, rules, length, length-map, take, all, Each, each_from}
-use Rattle.device.proofs.Kit.{each_next, each-fails, each-ends}
+use Rattle.device.proofs.Kit.{◌-◌, take, all, Each}
 use Rattle.device.proofs.lists_padded.Given as goal
 
 abbrev pub invariant-loop-i : goal.invariant-loop-i

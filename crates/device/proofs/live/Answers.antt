@@ -1,6 +1,6 @@
 -- A loan to an instance, to an app, or of no kind that there is.
 use Rattle.rules.specs.ListsLaws.{or-false}
-use Rattle.device.proofs.Kit.{◌∙◌, rules, ne_eqb}
+use Rattle.device.proofs.Kit.{◌∙◌, ne_eqb}
 use Rattle.device.proofs.live.Goals as goal
 
 pub returns-then-x-eq1 : goal.returns-then-x-eq1

@@ -3,7 +3,7 @@ use Rattle.rules.specs.Action.{is_operations}
 use Rattle.state.specs.Valid.{is_sharing_provider}
 use Rattle.tables.specs.Held.{parts_in}
 use Rattle.device.specs.PartLaws.{part-test-or}
-use Rattle.device.proofs.Kit.{refl, rules}
+use Rattle.device.proofs.Kit.{refl}
 use Rattle.device.proofs.loan_good.Goals as goal
 
 pub returns : goal.returns

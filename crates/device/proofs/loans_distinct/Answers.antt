@@ -1,8 +1,7 @@
 -- The inner loop looks for an entry again among those after it; the outer one goes on where there is none.
-use Rattle.state.specs.Valid.{same_loan}
-use Rattle.device.proofs.Kit.{◌+◌, ◌-◌, ◌≡◌, ◌∙◌, sym, arith, rules, length, slice, take, any, distinct}
-use Rattle.device.proofs.Kit.{Some, some-from, some_next, some-hits, some-ends}
-use Rattle.device.proofs.Kit.{Pairs, pairs-from, pairs_next, pairs-fails, pairs-ends}
+use Rattle.device.proofs.Kit.{◌≡◌, ◌∙◌, sym, arith, length}
+use Rattle.device.proofs.Kit.{some-from, some_next, some-hits, some-ends}
+use Rattle.device.proofs.Kit.{pairs-from, pairs_next, pairs-fails, pairs-ends}
 use Rattle.device.proofs.loans_distinct.Goals as goal
 use Rattle.device.proofs.loans_distinct.Goals.{Start}
 

@@ -3,11 +3,10 @@
 use Rattle.rules.specs.ListsLaws.{and-false}
 use Rattle.state.specs.Tables.{is_resource}
 use Rattle.state.specs.Stored.{zero_loan}
-use Rattle.tables.specs.Held.{rows_in, parts_in, resources_in, instances_in}
-use Rattle.device.specs.Tests.{good_loan}
-use Rattle.device.proofs.Kit.{◌≡◌, refl, ◌∙◌, sym, true, ◌-◌, arith, rules, length, length-map, take, get_or, any}
-use Rattle.device.proofs.Kit.{Some, some-from, some_next, some-hits, some-ends}
-use Rattle.device.proofs.Kit.{all, Each, each_from, each_next, each-fails, each-ends}
+use Rattle.tables.specs.Held.{resources_in}
+use Rattle.device.proofs.Kit.{◌≡◌, refl, ◌∙◌, sym, true, arith, length, get_or, any}
+use Rattle.device.proofs.Kit.{some-from, some_next, some-hits, some-ends}
+use Rattle.device.proofs.Kit.{each_from, each_next, each-fails, each-ends}
 use Rattle.device.proofs.loans_good.Goals as goal
 use Rattle.device.proofs.loans_good.Goals.{Start, Then-is_resource}
 
@@ -46,12 +45,11 @@ returns-else-loan_good c =
     (rw (there (goal.at.returns-else-loan_good c).Then-is_resource) (sym c.loan_good.ensures ∙ c.if-loan_good.false))
 
 pub loop-j-preserved : goal.loop-j-preserved
-loop-j-preserved c =
-    (
-      c.loop-j.invariant.0,
-      some_next c.loop-j.invariant.1 c.loop-j-test.true _
-          (sym c.is_resource.ensures ∙ c.if-is_resource.false),
-    )
+loop-j-preserved c = (
+  c.loop-j.invariant.0,
+  some_next c.loop-j.invariant.1 c.loop-j-test.true _
+      (sym c.is_resource.ensures ∙ c.if-is_resource.false),
+)
 
 pub returns-in-next : goal.returns-in-next
 returns-in-next c =

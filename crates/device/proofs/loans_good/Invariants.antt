@@ -1,13 +1,11 @@
 -- The inner loop looks for the resource of a loan; where it is there and the loan passes its other tests, the outer one
 -- goes on.
-use Rattle.rules.specs.ListsLaws.{and-false}
 use Rattle.state.specs.Tables.{is_resource}
-use Rattle.state.specs.Stored.{zero_loan}
 use Rattle.tables.specs.Held.{rows_in, parts_in, resources_in, instances_in}
 use Rattle.device.specs.Tests.{good_loan}
-use Rattle.device.proofs.Kit.{◌≡◌, refl, ◌∙◌, sym, true, ◌-◌, arith, rules, length, length-map, take, get_or, any}
-use Rattle.device.proofs.Kit.{Some, some-from, some_next, some-hits, some-ends}
-use Rattle.device.proofs.Kit.{all, Each, each_from, each_next, each-fails, each-ends}
+use Rattle.device.proofs.Kit.{◌≡◌, ◌-◌, take, any}
+use Rattle.device.proofs.Kit.{Some}
+use Rattle.device.proofs.Kit.{all, Each}
 use Rattle.device.proofs.loans_good.Given as goal
 
 abbrev pub invariant-loop-j : goal.invariant-loop-j

@@ -1,7 +1,6 @@
 -- Past the count the loop finds zeros up to the end of the array, or a place that is not zero.
 use Rattle.state.specs.Stored.{is_zero_loan}
-use Rattle.device.proofs.Kit.{◌≡◌, ◌∙◌, sym, ◌-◌, arith, rules, length, slice, all, Each, each_from, each_next}
-use Rattle.device.proofs.Kit.{each-fails, each-ends, pads-within, pads-past}
+use Rattle.device.proofs.Kit.{◌-◌, slice, all, Each}
 use Rattle.device.proofs.loans_padded.Given as goal
 
 abbrev pub invariant-loop-i : goal.invariant-loop-i

@@ -1,7 +1,7 @@
 -- The tests are made in the order of the definition, and the first that fails answers.
 use lib.ListN.{length-take}
 use Rattle.device.specs.StoredLaws.{app-counts}
-use Rattle.device.proofs.Kit.{◌≡◌, ◌∙◌, true, sym, arith, rules, length, length-map, take, leb, ltb, le-leb}
+use Rattle.device.proofs.Kit.{◌≡◌, ◌∙◌, true, arith, length, take, leb, ltb, le-leb}
 use Rattle.device.proofs.Kit.{lt-ltb, le-ltb, ltb-true, Holds, holds, fails}
 use Rattle.device.proofs.manifest_good.Goals as goal
 use Rattle.device.proofs.manifest_good.Goals.{Else-a-eq0, Else-a-eq0-2, Else-not-definitions_good, Else-not-parts_good, Else-not-uses_rise, Start}

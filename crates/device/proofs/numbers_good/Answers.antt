@@ -1,5 +1,5 @@
 -- The tests are made in the order of the definition, and the first that fails answers.
-use Rattle.device.proofs.Kit.{◌∙◌, rules, Holds, holds, fails}
+use Rattle.device.proofs.Kit.{◌∙◌, Holds, holds, fails}
 use Rattle.device.proofs.numbers_good.Goals as goal
 use Rattle.device.proofs.numbers_good.Goals.{Else-not-apps_distinct, Else-not-apps_numbered, Else-not-parts_distinct, Else-not-parts_numbered}
 

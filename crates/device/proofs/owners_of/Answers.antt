@@ -2,9 +2,9 @@
 use Rattle.rules.specs.declared.Part.{Part}
 use Rattle.state.specs.Stored.{padded, zero_resource}
 use Rattle.tables.specs.Held.{parts_in}
-use Rattle.device.specs.Tests.{part_or, owners_in}
-use Rattle.device.specs.PartLaws.{Filled, filled-begin, filled_next}
-use Rattle.device.proofs.Kit.{ℕ, ◌-◌, ◌≡◌, ◌∙◌, sym, ap, take, arith, rules, length, length-map}
+use Rattle.device.specs.Tests.{owners_in}
+use Rattle.device.specs.PartLaws.{filled-begin, filled_next}
+use Rattle.device.proofs.Kit.{ℕ, ◌≡◌, ◌∙◌, ap, take, arith, length}
 use Rattle.device.proofs.owners_of.Goals as goal
 use Rattle.device.proofs.owners_of.Goals.{Start}
 

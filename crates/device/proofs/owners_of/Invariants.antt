@@ -1,10 +1,8 @@
 -- The loop fills the array from the front with the app of each resource's provider.
-use Rattle.rules.specs.declared.Part.{Part}
-use Rattle.state.specs.Stored.{padded, zero_resource}
 use Rattle.tables.specs.Held.{parts_in}
-use Rattle.device.specs.Tests.{part_or, owners_in}
-use Rattle.device.specs.PartLaws.{Filled, filled-begin, filled_next}
-use Rattle.device.proofs.Kit.{ℕ, ◌-◌, ◌≡◌, ◌∙◌, sym, ap, take, arith, rules, length, length-map}
+use Rattle.device.specs.Tests.{part_or}
+use Rattle.device.specs.PartLaws.{Filled}
+use Rattle.device.proofs.Kit.{◌-◌}
 use Rattle.device.proofs.owners_of.Given as goal
 
 abbrev pub invariant-loop-i : goal.invariant-loop-i

@@ -4,7 +4,7 @@ use Rattle.state.specs.Stored.{zero_part}
 use Rattle.state.specs.Tables.{part_at}
 use Rattle.tables.specs.Finding.{is_part}
 use Rattle.tables.specs.FindingLaws.{Found, found, not_found}
-use Rattle.device.proofs.Kit.{◌<◌, ◌≡◌, ◌∙◌, sym, arith, rules, length, length-map}
+use Rattle.device.proofs.Kit.{◌<◌, ◌≡◌, ◌∙◌, sym, arith, length}
 use Rattle.device.proofs.part_at.Goals as goal
 use Rattle.device.proofs.part_at.Goals.{In-At}
 

@@ -1,6 +1,6 @@
 -- The loop tests every number up to the count, or finds one that is zero.
-use Rattle.device.proofs.Kit.{◌≡◌, ◌∙◌, sym, ◌-◌, arith, length, length-map, take, all, ltb, lt-ltb, le-ltb}
-use Rattle.device.proofs.Kit.{Each, each_from, each_next, each-fails, each-ends}
+use Rattle.device.proofs.Kit.{◌≡◌, arith, length, lt-ltb, le-ltb}
+use Rattle.device.proofs.Kit.{each_from, each_next, each-fails, each-ends}
 use Rattle.device.proofs.parts_numbered.Goals as goal
 use Rattle.device.proofs.parts_numbered.Goals.{Start}
 

@@ -1,5 +1,4 @@
 -- The part found is the component of the provider's number.
-use Rattle.device.proofs.Kit.{rules}
 use Rattle.device.proofs.provided.Goals as goal
 
 pub returns : goal.returns

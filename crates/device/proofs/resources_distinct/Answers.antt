@@ -1,9 +1,7 @@
 -- The inner loop looks for an entry again among those after it; the outer one goes on where there is none.
-use Rattle.state.specs.Valid.{same_resource}
-use Rattle.device.proofs.Kit.{◌+◌, ◌-◌, ◌≡◌, ◌∙◌, sym, arith, rules, length, length-map, slice, take}
-use Rattle.device.proofs.Kit.{any, distinct}
-use Rattle.device.proofs.Kit.{Some, some-from, some_next, some-hits, some-ends}
-use Rattle.device.proofs.Kit.{Pairs, pairs-from, pairs_next, pairs-fails, pairs-ends}
+use Rattle.device.proofs.Kit.{◌≡◌, ◌∙◌, sym, arith, length}
+use Rattle.device.proofs.Kit.{some-from, some_next, some-hits, some-ends}
+use Rattle.device.proofs.Kit.{pairs-from, pairs_next, pairs-fails, pairs-ends}
 use Rattle.device.proofs.resources_distinct.Goals as goal
 use Rattle.device.proofs.resources_distinct.Goals.{Start}
 

@@ -6,11 +6,11 @@ use Rattle.state.specs.Stored.{zero_resource}
 use Rattle.tables.specs.Held.{parts_in, resources_in}
 use Rattle.device.specs.Tests.{part_or, owners_in, components_of, resources_of}
 use Rattle.device.specs.PartLaws.{owned, good-if-provided, map_same, filled_at}
-use Rattle.device.specs.ScanLaws.{few_rising, RiseOf, rise-of-begin, rise-of-skips, rise-of-takes, rise-of-fails}
+use Rattle.device.specs.ScanLaws.{few_rising, rise-of-begin, rise-of-skips, rise-of-takes, rise-of-fails}
 use Rattle.device.specs.ScanLaws.{rise-of-ends}
-use Rattle.device.proofs.Kit.{ℕ, Bool, List, true, ◌-◌, ◌≡◌, ◌∙◌, sym, ap, take, get_or, map, keep, arith, rules}
-use Rattle.device.proofs.Kit.{length, length-map, ◌≤◌, ◌<◌}
-use Rattle.device.proofs.Kit.{eqb, eq-eqb, ne_eqb, ltb, ltb-true, not-true, not-false, and_left}
+use Rattle.device.proofs.Kit.{ℕ, Bool, List, true, ◌≡◌, ◌∙◌, sym, ap, get_or, map, arith}
+use Rattle.device.proofs.Kit.{length, ◌≤◌, ◌<◌}
+use Rattle.device.proofs.Kit.{eqb, eq-eqb, ne_eqb, ltb, ltb-true, and_left}
 use Rattle.state.specs.declared.Resources.{Resources}
 use Rattle.state.specs.declared.Parts.{Parts}
 use Rattle.state.specs.Stored.{padded}

@@ -1,7 +1,6 @@
 -- The loop finds the provider of every resource up to the count, or one whose provider is not installed.
-use Rattle.tables.specs.Held.{parts_in}
-use Rattle.device.proofs.Kit.{◌≡◌, ◌∙◌, sym, ◌-◌, arith, rules, length, length-map, take, all, Each, each_from}
-use Rattle.device.proofs.Kit.{each_next, each-fails, each-ends, any, eqb}
+use Rattle.device.proofs.Kit.{◌≡◌, ◌∙◌, sym, arith, length, each_from}
+use Rattle.device.proofs.Kit.{each_next, each-fails, each-ends}
 use Rattle.device.proofs.resources_owned.Goals as goal
 use Rattle.device.proofs.resources_owned.Goals.{Start}
 

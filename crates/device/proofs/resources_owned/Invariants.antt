@@ -1,7 +1,7 @@
 -- The loop finds the provider of every resource up to the count, or one whose provider is not installed.
 use Rattle.tables.specs.Held.{parts_in}
-use Rattle.device.proofs.Kit.{◌≡◌, ◌∙◌, sym, ◌-◌, arith, rules, length, length-map, take, all, Each, each_from}
-use Rattle.device.proofs.Kit.{each_next, each-fails, each-ends, any, eqb}
+use Rattle.device.proofs.Kit.{◌-◌, take, all, Each}
+use Rattle.device.proofs.Kit.{any, eqb}
 use Rattle.device.proofs.resources_owned.Given as goal
 
 abbrev pub invariant-loop-i : goal.invariant-loop-i

@@ -1,9 +1,9 @@
 -- The loop halves the number, and its lowest digit says each time whether the instance of the next number runs.
-use Rattle.state.specs.Stored.{digits_of, runs, mask_of}
+use Rattle.state.specs.Stored.{runs, mask_of}
 use Rattle.rules.specs.Action.{bit}
 use Rattle.tables.specs.Held.{instances_in}
-use Rattle.device.specs.ScanLaws.{Digits, digits-begin, digits-next, digits-fail, digits-end}
-use Rattle.device.proofs.Kit.{Bool, true, false, ◌≡◌, ◌∙◌, sym, ap, ◌-◌, arith, rules, eqb}
+use Rattle.device.specs.ScanLaws.{digits-begin, digits-next, digits-fail, digits-end}
+use Rattle.device.proofs.Kit.{Bool, true, false, ◌≡◌, ◌∙◌, sym, ap, arith}
 use Rattle.device.proofs.running_agrees.Goals as goal
 use Rattle.device.proofs.running_agrees.Goals.{After-has_instance}
 

@@ -1,9 +1,8 @@
 -- The loop halves the number, and its lowest digit says each time whether the instance of the next number runs.
-use Rattle.state.specs.Stored.{digits_of, runs, mask_of}
-use Rattle.rules.specs.Action.{bit}
+use Rattle.state.specs.Stored.{digits_of, runs}
 use Rattle.tables.specs.Held.{instances_in}
-use Rattle.device.specs.ScanLaws.{Digits, digits-begin, digits-next, digits-fail, digits-end}
-use Rattle.device.proofs.Kit.{Bool, true, false, ◌≡◌, ◌∙◌, sym, ap, ◌-◌, arith, rules, eqb}
+use Rattle.device.specs.ScanLaws.{Digits}
+use Rattle.device.proofs.Kit.{◌-◌, eqb}
 use Rattle.device.proofs.running_agrees.Given as goal
 
 abbrev pub invariant-loop-k : goal.invariant-loop-k

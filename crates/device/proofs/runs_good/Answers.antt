@@ -1,5 +1,5 @@
 -- The tests are made in the order of the definition, and the first that fails answers.
-use Rattle.device.proofs.Kit.{◌∙◌, rules, holds, fails}
+use Rattle.device.proofs.Kit.{◌∙◌, holds, fails}
 use Rattle.device.proofs.runs_good.Goals as goal
 
 pub returns-then-not-instances_distinct : goal.returns-then-not-instances_distinct

@@ -1,7 +1,7 @@
 -- The loop passes the uses while each is above the one before and at most 63.
 use Rattle.manifest.specs.Good.{good_use, uses_rise}
-use Rattle.device.specs.ScanLaws.{Rise, rise-begin, rise-next, rise-fails, rise-ends}
-use Rattle.device.proofs.Kit.{◌-◌, arith, take, not-true, not-false}
+use Rattle.device.specs.ScanLaws.{Rise}
+use Rattle.device.proofs.Kit.{◌-◌, take}
 use Rattle.device.proofs.uses_rise.Given as goal
 
 abbrev pub invariant-loop-i : goal.invariant-loop-i

@@ -1,6 +1,6 @@
 -- A device that is not well formed is not valid; of one that is the lists are tested.
 use Rattle.state.specs.Stored.{valid_stored}
-use Rattle.device.proofs.Kit.{◌≡◌, ◌∙◌, rules, length, eq-eqb, holds, fails}
+use Rattle.device.proofs.Kit.{◌≡◌, ◌∙◌, length, eq-eqb, holds, fails}
 use Rattle.device.proofs.valid.Goals as goal
 use Rattle.device.proofs.valid.Goals.{Start}
 

@@ -1,6 +1,6 @@
 -- The tests are made in the order of the definition, and the first that fails answers.
 use Rattle.state.specs.Stored.{formed}
-use Rattle.device.proofs.Kit.{◌≡◌, ◌∙◌, rules, length, Holds, holds, fails}
+use Rattle.device.proofs.Kit.{◌≡◌, ◌∙◌, length, Holds, holds, fails}
 use Rattle.device.proofs.well_formed.Goals as goal
 use Rattle.device.proofs.well_formed.Goals.{Else-not-apps_formed, Else-not-definitions_padded, Else-not-instances_formed, Else-not-parts_padded, Else-not-resources_padded, Start}
 

@@ -1,5 +1,4 @@
 -- The parts of the test are those of the definition.
-use Rattle.device.proofs.Kit.{rules}
 use Rattle.device.proofs.zero_app.Goals as goal
 
 pub returns : goal.returns

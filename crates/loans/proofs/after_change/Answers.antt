@@ -1,6 +1,6 @@
 -- `after_change` meets its contract: at each turn the records passed, from the last on, are the same.
-use Rattle.loans.proofs.Kit.{sym, ◌∙◌, arith, rules, table-long}
-use Rattle.loans.specs.ChangeLaws.{Behind, behind-begin, behind-next, behind-differs, behind-ends}
+use Rattle.loans.proofs.Kit.{sym, ◌∙◌, table-long}
+use Rattle.loans.specs.ChangeLaws.{behind-begin, behind-next, behind-differs, behind-ends}
 use Rattle.loans.proofs.after_change.Goals as goal
 
 pub loop-i-init : goal.loop-i-init

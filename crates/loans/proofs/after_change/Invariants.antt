@@ -1,6 +1,5 @@
 -- `after_change` meets its contract: at each turn the records passed, from the last on, are the same.
-use Rattle.loans.proofs.Kit.{sym, ◌∙◌, arith, rules, table-long}
-use Rattle.loans.specs.ChangeLaws.{Behind, behind-begin, behind-next, behind-differs, behind-ends}
+use Rattle.loans.specs.ChangeLaws.{Behind}
 use Rattle.loans.proofs.after_change.Given as goal
 
 abbrev pub invariant-loop-i : goal.invariant-loop-i

@@ -1,5 +1,5 @@
 -- `append` meets its contract: the loan stands after the last one held, where there is a place.
-use Rattle.loans.proofs.Kit.{ap, ◌∙◌, arith, rules, Bound, bound, loans-long, appended-full, appended-more}
+use Rattle.loans.proofs.Kit.{ap, ◌∙◌, arith, Bound, bound, loans-long, appended-full, appended-more}
 use Rattle.loans.specs.Held.{loans_table}
 use Rattle.loans.proofs.append.Goals as goal
 use Rattle.loans.proofs.append.Goals.{After-within-n}

@@ -1,9 +1,9 @@
 -- `asked_by` meets its contract: each code has its case.
 use Rattle.std.proofs.Common.{arith}
-use Rattle.loans.proofs.Kit.{rules, sym, ◌∙◌}
+use Rattle.loans.proofs.Kit.{sym, ◌∙◌}
 use Rattle.rules.specs.Lists.{find, or_else, map_option}
 use Rattle.loans.specs.Asked.{asked_by, cases}
-use Rattle.loans.specs.AskedLaws.{outside, asks_nothing}
+use Rattle.loans.specs.AskedLaws.{asks_nothing}
 use Rattle.loans.proofs.asked_by.Goals as goal
 
 pub returns-in-1 : goal.returns-in-1

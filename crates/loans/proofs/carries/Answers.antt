@@ -1,5 +1,4 @@
 -- `carries` meets its contract: each operation has its numbers.
-use Rattle.loans.proofs.Kit.{rules}
 use Rattle.rules.specs.Action.{carries}
 use Rattle.loans.proofs.carries.Goals as goal
 

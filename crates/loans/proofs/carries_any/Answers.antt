@@ -1,5 +1,4 @@
 -- `carries_any` meets its contract: it asks for both operations.
-use Rattle.loans.proofs.Kit.{rules}
 use Rattle.state.specs.Effects.{carries_any}
 use Rattle.loans.proofs.carries_any.Goals as goal
 

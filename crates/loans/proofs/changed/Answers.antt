@@ -1,5 +1,4 @@
 -- `changed` meets its contract: it is where the tables first and last differ.
-use Rattle.loans.proofs.Kit.{rules}
 use Rattle.loans.specs.Lent.{changed_in}
 use Rattle.loans.proofs.changed.Goals as goal
 

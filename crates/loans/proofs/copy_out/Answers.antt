@@ -10,12 +10,11 @@ loop-i-init c = (omega arith, c.no_loans-table.ensures ∙ copied_none c.args.le
 
 pub loop-i-preserved : goal.loop-i-preserved
 loop-i-preserved c =
-    let l = c.args.lent.now in
-    (
+    let l = c.args.lent.now in (
       omega arith,
       c.put-next.ensures
-      ∙ ap (λ (t : List Loan). set t c.loop-i.i (get_or l c.loop-i.i zero_loan)) c.loop-i.invariant.1
-      ∙ copied_more l c.loop-i.i (omega arith) (omega arith),
+          ∙ ap (λ (t : List Loan). set t c.loop-i.i (get_or l c.loop-i.i zero_loan)) c.loop-i.invariant.1
+          ∙ copied_more l c.loop-i.i (omega arith) (omega arith),
     )
 
 pub returns : goal.returns

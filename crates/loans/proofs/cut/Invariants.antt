@@ -1,7 +1,6 @@
 -- `cut` meets its contract: the places from the end of the list on are made zero, one at each turn.
-use Rattle.loans.proofs.Kit.{◌-◌, arith, rules, Bound, bound, loans-long}
-use Rattle.loans.proofs.Kit.{Cleared, cleared-begin, cleared-next, cleared-ends, cleared-count}
-use Rattle.state.specs.Stored.{zero_loan}
+use Rattle.loans.proofs.Kit.{◌-◌}
+use Rattle.loans.proofs.Kit.{Cleared}
 use Rattle.loans.proofs.cut.Given as goal
 
 abbrev pub invariant-loop-j : goal.invariant-loop-j

@@ -1,5 +1,5 @@
 -- `decode` meets its contract: twelve bytes whose record is well formed ask for what the code asks for.
-use Rattle.loans.proofs.Kit.{rules, ◌≡◌, true, false, eq-eqb, ne_eqb, not-true, not-false}
+use Rattle.loans.proofs.Kit.{◌≡◌, true, false, eq-eqb, ne_eqb, not-true, not-false}
 use Rattle.loans.specs.Asked.{asked_of, record_of, well_formed}
 use Rattle.loans.proofs.decode.Goals as goal
 

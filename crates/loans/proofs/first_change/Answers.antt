@@ -1,6 +1,6 @@
 -- `first_change` meets its contract: at each turn the records passed are the same.
-use Rattle.loans.proofs.Kit.{sym, ◌∙◌, ◌-◌, arith, rules, table-long}
-use Rattle.loans.specs.ChangeLaws.{Alike, alike-begin, alike_next, alike-differs, alike-ends}
+use Rattle.loans.proofs.Kit.{sym, ◌∙◌, table-long}
+use Rattle.loans.specs.ChangeLaws.{alike-begin, alike_next, alike-differs, alike-ends}
 use Rattle.loans.proofs.first_change.Goals as goal
 
 pub loop-i-init : goal.loop-i-init

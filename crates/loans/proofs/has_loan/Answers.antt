@@ -1,8 +1,6 @@
 -- `has_loan` meets its contract: at each turn the whole answer is the answer for the loans that are left.
-use Rattle.loans.proofs.Kit.{sym, ◌∙◌, any, ◌-◌, arith, rules, bound, loans-long}
-use Rattle.loans.proofs.Kit.{Some, some-begin, some_next, some-hits, some-ends}
-use Rattle.state.specs.Tables.{is_loan}
-use Rattle.loans.specs.Held.{loans_in, receiver_of}
+use Rattle.loans.proofs.Kit.{sym, ◌∙◌, bound, loans-long}
+use Rattle.loans.proofs.Kit.{some-begin, some_next, some-hits, some-ends}
 use Rattle.loans.proofs.has_loan.Goals as goal
 
 pub loop-i-init : goal.loop-i-init

@@ -1,5 +1,4 @@
 -- `is_loan` meets its contract: receiver and resource are tested.
-use Rattle.loans.proofs.Kit.{rules}
 use Rattle.state.specs.Tables.{is_loan}
 use Rattle.loans.proofs.is_loan.Goals as goal
 

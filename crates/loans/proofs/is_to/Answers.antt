@@ -1,5 +1,4 @@
 -- `is_to` meets its contract: kind and number of the receiver are tested.
-use Rattle.loans.proofs.Kit.{rules}
 use Rattle.state.specs.Tables.{is_to}
 use Rattle.loans.proofs.is_to.Goals as goal
 

@@ -1,5 +1,5 @@
 -- `keep_operations` meets its contract: what is kept is an answer for each operation.
-use Rattle.loans.proofs.Kit.{rules, ◌∙◌, ◌&&◌, with-by}
+use Rattle.loans.proofs.Kit.{◌∙◌, ◌&&◌, with-by}
 use Rattle.rules.specs.Action.{carries}
 use Rattle.state.specs.Effects.{kept}
 use Rattle.loans.specs.Held.{by_op}

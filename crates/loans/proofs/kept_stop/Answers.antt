@@ -1,5 +1,5 @@
 -- `kept_stop` meets its contract: a loan to the instance keeps nothing, and any other all.
-use Rattle.loans.proofs.Kit.{rules, ap, not, ◌∙◌, kept_by}
+use Rattle.loans.proofs.Kit.{ap, not, ◌∙◌, kept_by}
 use Rattle.loans.specs.Held.{keeps_stop}
 use Rattle.loans.proofs.kept_stop.Goals as goal
 

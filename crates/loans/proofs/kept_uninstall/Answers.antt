@@ -1,5 +1,5 @@
 -- `kept_uninstall` meets its contract: a loan that ends with the app keeps nothing, and any other all.
-use Rattle.loans.proofs.Kit.{rules, ◌∙◌, kept_by}
+use Rattle.loans.proofs.Kit.{◌∙◌, kept_by}
 use Rattle.state.specs.Effects.{ends_with}
 use Rattle.tables.specs.Held.{parts_in}
 use Rattle.loans.specs.Held.{keeps_uninstall}

@@ -1,5 +1,5 @@
 -- `kept_withdraw` meets its contract: a loan on the resource keeps each operation that is not withdrawn.
-use Rattle.loans.proofs.Kit.{rules, ◌∙◌, kept_by}
+use Rattle.loans.proofs.Kit.{◌∙◌, kept_by}
 use Rattle.loans.specs.Held.{keeps_withdraw}
 use Rattle.loans.proofs.kept_withdraw.Goals as goal
 

@@ -1,5 +1,4 @@
 -- `kind_of` meets its contract: each receiver has its kind.
-use Rattle.loans.proofs.Kit.{rules}
 use Rattle.rules.specs.Action.{receiver_kind}
 use Rattle.loans.proofs.kind_of.Goals as goal
 

@@ -1,5 +1,5 @@
 -- `lend` meets its contract: where there is a loan to widen it is widened, and else one is added.
-use Rattle.loans.proofs.Kit.{sym, ap, ◌∙◌, rules, lend-widens, lend-adds}
+use Rattle.loans.proofs.Kit.{sym, ap, ◌∙◌, lend-widens, lend-adds}
 use Rattle.rules.specs.declared.Loan.{Loan}
 use Rattle.loans.specs.Held.{loans_in, loans_table, receiver_of, appended}
 use Rattle.loans.proofs.lend.Goals as goal

@@ -1,10 +1,7 @@
 -- `lends` meets its contract: at each turn the whole answer is the answer for the loans that are left.
-use Rattle.loans.proofs.Kit.{◌&&◌, ◌-◌, arith, rules, bound, loans-long, in_words}
-use Rattle.loans.proofs.Kit.{Some, some-begin, some_next, some-hits, some-ends}
-use Rattle.rules.specs.Action.{carries}
-use Rattle.state.specs.Tables.{is_loan, lent_in}
-use Rattle.tables.specs.Looking.{op_of}
-use Rattle.loans.specs.Held.{loans_in, receiver_of}
+use Rattle.loans.proofs.Kit.{bound, loans-long, in_words}
+use Rattle.loans.proofs.Kit.{some-begin, some_next, some-hits, some-ends}
+use Rattle.state.specs.Tables.{lent_in}
 use Rattle.loans.proofs.lends.Goals as goal
 
 pub loop-i-init : goal.loop-i-init

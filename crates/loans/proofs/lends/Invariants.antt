@@ -1,6 +1,6 @@
 -- `lends` meets its contract: at each turn the whole answer is the answer for the loans that are left.
-use Rattle.loans.proofs.Kit.{◌&&◌, ◌-◌, arith, rules, bound, loans-long, in_words}
-use Rattle.loans.proofs.Kit.{Some, some-begin, some_next, some-hits, some-ends}
+use Rattle.loans.proofs.Kit.{◌&&◌, ◌-◌}
+use Rattle.loans.proofs.Kit.{Some}
 use Rattle.rules.specs.Action.{carries}
 use Rattle.state.specs.Tables.{is_loan, lent_in}
 use Rattle.tables.specs.Looking.{op_of}

@@ -1,5 +1,4 @@
 -- `loan_of` meets its contract: the record is the definition's, field by field.
-use Rattle.loans.proofs.Kit.{rules}
 use Rattle.state.specs.Effects.{loan_of}
 use Rattle.loans.proofs.loan_of.Goals as goal
 

@@ -1,5 +1,4 @@
 -- `no_loans` meets its contract: the repeated value is the zero loan.
-use Rattle.loans.proofs.Kit.{rules}
 use Rattle.loans.specs.Lent.{no_loans}
 use Rattle.loans.proofs.no_loans.Goals as goal
 

@@ -1,5 +1,4 @@
 -- `number_of` meets its contract: it is the number in either case.
-use Rattle.loans.proofs.Kit.{rules}
 use Rattle.rules.specs.Action.{receiver_number}
 use Rattle.loans.proofs.number_of.Goals as goal
 

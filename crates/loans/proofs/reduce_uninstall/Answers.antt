@@ -1,9 +1,8 @@
 -- `reduce_uninstall` meets its contract: at each turn what is left of the loans passed stands at the front.
-use Rattle.loans.proofs.Kit.{sym, ap, ◌∙◌, ◌-◌, arith, rules, Bound, bound, loans-long}
-use Rattle.loans.proofs.Kit.{Compacted, compacted-begin, compacted-keep, compacted-skip, compacted-ends}
-use Rattle.state.specs.Effects.{kept, carries_any, reduce}
-use Rattle.tables.specs.Held.{parts_in}
-use Rattle.loans.specs.Held.{loans_table, keeps_uninstall}
+use Rattle.loans.proofs.Kit.{sym, ap, ◌∙◌, Bound, bound, loans-long}
+use Rattle.loans.proofs.Kit.{compacted-begin, compacted-keep, compacted-skip, compacted-ends}
+use Rattle.state.specs.Effects.{reduce}
+use Rattle.loans.specs.Held.{loans_table}
 use Rattle.loans.proofs.reduce_uninstall.Goals as goal
 use Rattle.loans.proofs.reduce_uninstall.Goals.{After-within-n}
 

@@ -1,9 +1,9 @@
 -- `reduce_uninstall` meets its contract: at each turn what is left of the loans passed stands at the front.
-use Rattle.loans.proofs.Kit.{sym, ap, ◌∙◌, ◌-◌, arith, rules, Bound, bound, loans-long}
-use Rattle.loans.proofs.Kit.{Compacted, compacted-begin, compacted-keep, compacted-skip, compacted-ends}
-use Rattle.state.specs.Effects.{kept, carries_any, reduce}
+use Rattle.loans.proofs.Kit.{◌-◌}
+use Rattle.loans.proofs.Kit.{Compacted}
+use Rattle.state.specs.Effects.{kept, carries_any}
 use Rattle.tables.specs.Held.{parts_in}
-use Rattle.loans.specs.Held.{loans_table, keeps_uninstall}
+use Rattle.loans.specs.Held.{keeps_uninstall}
 use Rattle.loans.proofs.reduce_uninstall.Given as goal
 
 abbrev pub invariant-loop-i : goal.invariant-loop-i

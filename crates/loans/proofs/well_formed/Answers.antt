@@ -6,7 +6,7 @@ use Rattle.rules.specs.ListsLaws.{and-true}
 use Rattle.rules.specs.Action.{is_operations}
 use Rattle.rules.specs.Record.{forms, fitting, fits}
 use Rattle.loans.specs.Asked.{well_formed}
-use Rattle.loans.specs.AskedLaws.{outside, not-well-formed}
+use Rattle.loans.specs.AskedLaws.{not-well-formed}
 use Rattle.loans.proofs.well_formed.Goals as goal
 
 pub returns-in-1 : goal.returns-in-1

@@ -1,8 +1,7 @@
 -- `widen` meets its contract: at each turn the loans passed are widened where they stand.
-use Rattle.loans.proofs.Kit.{refl, ap, ◌∙◌, ◌-◌, arith, rules, Bound, bound, loans-long}
-use Rattle.loans.proofs.Kit.{Compacted, compacted-begin, compacted-keep, every, mapped-ends}
-use Rattle.state.specs.Effects.{widened}
-use Rattle.loans.specs.Held.{loans_table, receiver_of}
+use Rattle.loans.proofs.Kit.{refl, ap, ◌∙◌, Bound, bound, loans-long}
+use Rattle.loans.proofs.Kit.{compacted-begin, compacted-keep, mapped-ends}
+use Rattle.loans.specs.Held.{loans_table}
 use Rattle.loans.proofs.widen.Goals as goal
 use Rattle.loans.proofs.widen.Goals.{After-within-n}
 

@@ -1,8 +1,8 @@
 -- `widen` meets its contract: at each turn the loans passed are widened where they stand.
-use Rattle.loans.proofs.Kit.{refl, ap, ◌∙◌, ◌-◌, arith, rules, Bound, bound, loans-long}
-use Rattle.loans.proofs.Kit.{Compacted, compacted-begin, compacted-keep, every, mapped-ends}
+use Rattle.loans.proofs.Kit.{◌-◌}
+use Rattle.loans.proofs.Kit.{Compacted, every}
 use Rattle.state.specs.Effects.{widened}
-use Rattle.loans.specs.Held.{loans_table, receiver_of}
+use Rattle.loans.specs.Held.{receiver_of}
 use Rattle.loans.proofs.widen.Given as goal
 
 abbrev pub invariant-loop-i : goal.invariant-loop-i

@@ -1,5 +1,5 @@
 -- `widened` meets its contract: what is carried after is an answer for each operation.
-use Rattle.loans.proofs.Kit.{rules, ◌∙◌, ◌&&◌, ◌||◌, with-by}
+use Rattle.loans.proofs.Kit.{◌∙◌, ◌&&◌, ◌||◌, with-by}
 use Rattle.rules.specs.Action.{carries}
 use Rattle.state.specs.Tables.{is_loan}
 use Rattle.state.specs.Effects.{widened}

@@ -1,5 +1,4 @@
 -- `with_operations` meets its contract: only the operations are anew.
-use Rattle.loans.proofs.Kit.{rules}
 use Rattle.state.specs.Effects.{with_operations}
 use Rattle.loans.proofs.with_operations.Goals as goal
 

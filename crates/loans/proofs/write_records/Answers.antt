@@ -1,5 +1,5 @@
 -- `write_records` meets its contract: at the end the records up to `to` are written that both tables have.
-use Rattle.std.proofs.Common.{◌∙◌, List, ap, arith, set, length}
+use Rattle.std.proofs.Common.{◌∙◌, ap, arith, set}
 use Rattle.std.proofs.Math.ListN.{length-set}
 use Rattle.rules.specs.declared.Loan.{Loan}
 use Rattle.state.specs.Stored.{zero_loan}
@@ -13,14 +13,13 @@ loop-i-init c = (omega arith, omega arith, omega arith, written_none c.args.from
 pub loop-i-preserved : goal.loop-i-preserved
 loop-i-preserved c =
     let was = c.loop-i.invariant in
-    let long = table-long c.args.table c.well_formed.1.0 in
-    (
+    let long = table-long c.args.table c.well_formed.1.0 in (
       omega arith,
       omega arith,
       length-set c.loop-i.lent c.loop-i.i c.pick-x.result ∙ was.2,
       ap (λ (x : Loan). set c.loop-i.lent c.loop-i.i x) c.pick-x.ensures
-      ∙ written-more c.args.from c.loop-i.i c.args.table c.args.lent.now c.loop-i.lent zero_loan was.0 (omega arith)
-      (omega arith) was.3,
+          ∙ written-more c.args.from c.loop-i.i c.args.table c.args.lent.now c.loop-i.lent zero_loan was.0 (omega arith)
+          (omega arith) was.3,
     )
 
 pub returns : goal.returns

@@ -1,5 +1,5 @@
 -- `add_definitions` meets its contract: at each turn the whole table is the table for the entries that are left.
-use Rattle.monitor.proofs.Kit.{◌+◌, ◌*◌, ◌≡◌, refl, sym, ◌∙◌, arith, rules, entries, define_at, append_all}
+use Rattle.monitor.proofs.Kit.{refl, sym, ◌∙◌, arith, define_at}
 use Rattle.monitor.proofs.Kit.{section-next, section-ends, entry-there}
 use Rattle.manifest.specs.Verdict.{zero_define}
 use Rattle.tables.specs.Changing.{append_definition}

@@ -1,5 +1,5 @@
 -- `add_parts` meets its contract: at each turn the whole table is the table for the entries that are left.
-use Rattle.monitor.proofs.Kit.{◌+◌, ◌*◌, ◌≡◌, refl, sym, ◌∙◌, arith, rules, entries, component_at, append_all}
+use Rattle.monitor.proofs.Kit.{refl, sym, ◌∙◌, arith, component_at}
 use Rattle.monitor.proofs.Kit.{section-next, section-ends, entry-there}
 use Rattle.manifest.specs.Verdict.{zero_component}
 use Rattle.tables.specs.Changing.{append_part}

@@ -1,5 +1,5 @@
 -- `add_use` meets its contract: a full list stays, and else the permission stands at the count.
-use Rattle.monitor.proofs.Kit.{arith, rules, le-leb, lt-leb}
+use Rattle.monitor.proofs.Kit.{le-leb, lt-leb}
 use Rattle.monitor.specs.Installing.{add_use}
 use Rattle.monitor.proofs.add_use.Goals as goal
 

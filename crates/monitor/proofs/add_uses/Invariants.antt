@@ -1,7 +1,5 @@
 -- `add_uses` meets its contract: at each turn the whole table is the table for the entries that are left.
-use Rattle.monitor.proofs.Kit.{◌+◌, ◌*◌, ◌≡◌, refl, sym, ◌∙◌, arith, rules, entries, u8_at, append_all}
-use Rattle.monitor.proofs.Kit.{section-next}
-use Rattle.monitor.proofs.Kit.{section-ends}
+use Rattle.monitor.proofs.Kit.{◌+◌, ◌*◌, ◌≡◌, entries, u8_at, append_all}
 use Rattle.monitor.specs.Installing.{add_use}
 use Rattle.monitor.proofs.add_uses.Given as goal
 

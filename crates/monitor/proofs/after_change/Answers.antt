@@ -1,5 +1,5 @@
 -- `after_change` meets its contract: a refusal leaves all, and else the changed apps are those of the next state.
-use Rattle.monitor.proofs.Kit.{sym, ◌∙◌, arith, rules, model_of, Kept, kept_by, refused-stays, grant-steps}
+use Rattle.monitor.proofs.Kit.{sym, ◌∙◌, arith, model_of, Kept, kept_by, refused-stays, grant-steps}
 use Rattle.monitor.proofs.Kit.{member-low}
 use Rattle.monitor.proofs.after_change.Goals as goal
 use Rattle.monitor.proofs.after_change.Goals.{Start}

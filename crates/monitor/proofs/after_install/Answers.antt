@@ -1,6 +1,6 @@
 -- `after_install` meets its contract: a refusal leaves all, and else the bytes are a good manifest, whose sections make
 -- the tables of the next state.
-use Rattle.monitor.proofs.Kit.{◌≡◌, sym, ap, ◌∙◌, rules, Kept, kept_by, refused-stays, installs-good}
+use Rattle.monitor.proofs.Kit.{◌≡◌, sym, ap, ◌∙◌, Kept, kept_by, refused-stays, installs-good}
 use Rattle.monitor.proofs.Kit.{install-steps}
 use Rattle.monitor.proofs.Kit.{sections-found, never-malformed, good-within}
 use mathlib.Core.Bool.{true}

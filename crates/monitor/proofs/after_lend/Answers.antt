@@ -1,6 +1,6 @@
 -- `after_lend` meets its contract: a refusal leaves all, and else the loans with the one lent are those of the next
 -- state.
-use Rattle.monitor.proofs.Kit.{◌∙◌, rules, Kept, kept_by, refused-stays, loans-steps, lend-left}
+use Rattle.monitor.proofs.Kit.{◌∙◌, Kept, kept_by, refused-stays, loans-steps, lend-left}
 use Rattle.rules.specs.Action.{lend}
 use Rattle.state.specs.Stored.{model_of}
 use Rattle.loans.specs.Held.{receiver_of}

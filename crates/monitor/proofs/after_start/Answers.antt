@@ -1,6 +1,6 @@
 -- `after_start` meets its contract: a refusal leaves all, and else the instances with the new one are those of the next
 -- state.
-use Rattle.monitor.proofs.Kit.{refl, sym, ◌∙◌, arith, rules, model_of, Kept, kept_by, refused-stays, start-steps}
+use Rattle.monitor.proofs.Kit.{refl, sym, ◌∙◌, arith, model_of, Kept, kept_by, refused-stays, start-steps}
 use Rattle.monitor.proofs.Kit.{number-low}
 use Rattle.monitor.proofs.after_start.Goals as goal
 use Rattle.monitor.proofs.after_start.Goals.{Start}

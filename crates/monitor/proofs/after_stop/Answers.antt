@@ -1,6 +1,6 @@
 -- `after_stop` meets its contract: a refusal leaves all, and else the instances and the loans left are those of the
 -- next state.
-use Rattle.monitor.proofs.Kit.{rules, Kept, kept_by, refused-stays, stop-steps}
+use Rattle.monitor.proofs.Kit.{Kept, kept_by, refused-stays, stop-steps}
 use Rattle.state.specs.Effects.{loans_after}
 use Rattle.state.specs.Stored.{model_of}
 use Rattle.monitor.proofs.after_stop.Goals as goal

@@ -1,6 +1,6 @@
 -- `after_uninstall` meets its contract: a refusal leaves all, and else the tables and the loans left are those of the
 -- next state.
-use Rattle.monitor.proofs.Kit.{rules, Kept, kept_by, refused-stays, uninstall-steps}
+use Rattle.monitor.proofs.Kit.{Kept, kept_by, refused-stays, uninstall-steps}
 use Rattle.state.specs.Effects.{loans_after}
 use Rattle.state.specs.Stored.{model_of}
 use Rattle.monitor.proofs.after_uninstall.Goals as goal

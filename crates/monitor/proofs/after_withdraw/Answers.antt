@@ -1,5 +1,5 @@
 -- `after_withdraw` meets its contract: a refusal leaves all, and else the loans left are those of the next state.
-use Rattle.monitor.proofs.Kit.{rules, Kept, kept_by, refused-stays, loans-steps}
+use Rattle.monitor.proofs.Kit.{Kept, kept_by, refused-stays, loans-steps}
 use Rattle.rules.specs.Action.{withdraw}
 use Rattle.state.specs.Effects.{loans_after}
 use Rattle.state.specs.Stored.{model_of}

@@ -1,5 +1,5 @@
 -- `after_write` meets its contract: a refusal leaves all, and else the written resources are those of the next state.
-use Rattle.monitor.proofs.Kit.{rules, Kept, kept_by, refused-stays, write-steps}
+use Rattle.monitor.proofs.Kit.{Kept, kept_by, refused-stays, write-steps}
 use Rattle.monitor.proofs.after_write.Goals as goal
 use Rattle.monitor.proofs.after_write.Goals.{Start}
 

@@ -1,5 +1,5 @@
 -- `app_made` meets its contract: the uses are put to a new app.
-use Rattle.monitor.proofs.Kit.{◌∙◌, rules}
+use Rattle.monitor.proofs.Kit.{◌∙◌}
 use Rattle.monitor.proofs.app_made.Goals as goal
 
 pub returns : goal.returns

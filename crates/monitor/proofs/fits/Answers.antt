@@ -1,5 +1,4 @@
 -- `fits` meets its contract by the two cases of a receiver.
-use Rattle.monitor.proofs.Kit.{rules}
 use Rattle.rules.specs.Action.{receiver_number}
 use Rattle.monitor.proofs.fits.Goals as goal
 

@@ -1,5 +1,5 @@
 -- `inner` meets its contract: what the bytes ask for, as a case, is the action of the rules.
-use Rattle.monitor.proofs.Kit.{ap, ◌∙◌, rules}
+use Rattle.monitor.proofs.Kit.{ap, ◌∙◌}
 use Rattle.rules.specs.Action.{Action}
 use Rattle.loans.specs.declared.Asked.{Asked}
 use Rattle.loans.specs.Asked.{action_from}

@@ -1,5 +1,5 @@
 -- `install_made` meets its contract: each table is made from its own, and the rest is as it was.
-use Rattle.monitor.proofs.Kit.{ap, ◌∙◌, rules}
+use Rattle.monitor.proofs.Kit.{ap, ◌∙◌}
 use Rattle.tables.specs.Changing.{append_app}
 use Rattle.monitor.proofs.install_made.Goals as goal
 

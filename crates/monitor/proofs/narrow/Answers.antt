@@ -1,5 +1,5 @@
 -- `narrow` meets its contract by the two cases of a receiver.
-use Rattle.monitor.proofs.Kit.{◌≤◌, arith, rules}
+use Rattle.monitor.proofs.Kit.{◌≤◌, arith}
 use Rattle.rules.specs.Action.{receiver_number}
 use Rattle.monitor.proofs.narrow.Goals as goal
 

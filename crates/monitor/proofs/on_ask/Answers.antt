@@ -1,5 +1,5 @@
 -- `on_ask` meets its contract: a question leaves all as it was.
-use Rattle.monitor.proofs.Kit.{◌∙◌, rules, kept_by, query-stays, ask-unasked}
+use Rattle.monitor.proofs.Kit.{◌∙◌, kept_by, query-stays, ask-unasked}
 use Rattle.rules.specs.Action.{ask}
 use Rattle.monitor.proofs.on_ask.Goals as goal
 

@@ -1,5 +1,5 @@
 -- `on_asked` meets its contract: each case is the action of its own function.
-use Rattle.monitor.proofs.Kit.{ℕ, ◌≡◌, sym, ap, ◌∙◌, rules}
+use Rattle.monitor.proofs.Kit.{ℕ, ◌≡◌, sym, ap, ◌∙◌}
 use mathlib.Core.List.{List}
 use Rattle.rules.specs.declared.Loan.{Loan}
 use Rattle.state.specs.declared.Device.{Device}

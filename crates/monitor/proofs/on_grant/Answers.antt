@@ -1,5 +1,5 @@
 -- `on_grant` meets its contract: the answer asks of no loan, and the step follows it.
-use Rattle.monitor.proofs.Kit.{◌∙◌, rules, grants-unasked}
+use Rattle.monitor.proofs.Kit.{◌∙◌, grants-unasked}
 use Rattle.monitor.proofs.on_grant.Goals as goal
 
 pub after_change-requires : goal.after_change-requires

@@ -1,5 +1,5 @@
 -- `on_install` meets its contract: the answer asks of no loan, and the step follows it.
-use Rattle.monitor.proofs.Kit.{◌∙◌, rules, apps-unasked}
+use Rattle.monitor.proofs.Kit.{◌∙◌, apps-unasked}
 use Rattle.monitor.proofs.on_install.Goals as goal
 
 pub after_install-requires : goal.after_install-requires

@@ -1,5 +1,5 @@
 -- `on_lend` meets its contract: a receiver that is there has a number that fits, and the step follows the answer.
-use Rattle.monitor.proofs.Kit.{sym, ap, ◌∙◌, rules, leb-true, model_of, kept_by, numbers-narrow, lend-stays}
+use Rattle.monitor.proofs.Kit.{sym, ap, ◌∙◌, leb-true, model_of, kept_by, numbers-narrow, lend-stays}
 use Rattle.rules.specs.Action.{Receiver, on_loans, lend}
 use Rattle.answers.specs.Answering.{receiver_of as wide_receiver}
 use Rattle.monitor.specs.Stepped.{answer_to, stepped_by}
@@ -10,10 +10,13 @@ narrow-requires c = leb-true _ _ (sym c.fits.ensures ∙ c.if-fits.true)
 
 pub after_lend-requires : goal.after_lend-requires
 after_lend-requires c =
-    let a = c.args in record { lent_value = c.requires; answer_value = c.lend-answer.ensures
+    let a = c.args in record {
+      lent_value = c.requires;
+      answer_value = c.lend-answer.ensures
           ∙ ap (λ (q : Receiver). answer_to (model_of a.d a.lent)
           (on_loans (lend a.operations a.provider a.giver a.uri q)))
-          (sym c.narrow.ensures) }
+          (sym c.narrow.ensures);
+    }
 
 pub returns-then-fits : goal.returns-then-fits
 returns-then-fits c =

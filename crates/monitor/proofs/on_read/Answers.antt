@@ -1,5 +1,5 @@
 -- `on_read` meets its contract: a question leaves all as it was.
-use Rattle.monitor.proofs.Kit.{rules, kept_by, query-stays}
+use Rattle.monitor.proofs.Kit.{kept_by, query-stays}
 use Rattle.rules.specs.Action.{read}
 use Rattle.monitor.proofs.on_read.Goals as goal
 

@@ -1,5 +1,5 @@
 -- `on_stop` meets its contract: the answer asks of no loan, and the step follows it.
-use Rattle.monitor.proofs.Kit.{◌∙◌, rules, runs-unasked}
+use Rattle.monitor.proofs.Kit.{◌∙◌, runs-unasked}
 use Rattle.monitor.proofs.on_stop.Goals as goal
 
 pub after_stop-requires : goal.after_stop-requires

@@ -1,5 +1,5 @@
 -- `on_uninstall` meets its contract: the answer asks of no loan, and the step follows it.
-use Rattle.monitor.proofs.Kit.{◌∙◌, rules, apps-unasked}
+use Rattle.monitor.proofs.Kit.{◌∙◌, apps-unasked}
 use Rattle.monitor.proofs.on_uninstall.Goals as goal
 
 pub after_uninstall-requires : goal.after_uninstall-requires

@@ -1,5 +1,5 @@
 -- `on_withdraw` meets its contract: the answer asks of no loan, and the step follows it.
-use Rattle.monitor.proofs.Kit.{◌∙◌, rules, withdraw-unasked}
+use Rattle.monitor.proofs.Kit.{◌∙◌, withdraw-unasked}
 use Rattle.monitor.proofs.on_withdraw.Goals as goal
 
 pub after_withdraw-requires : goal.after_withdraw-requires

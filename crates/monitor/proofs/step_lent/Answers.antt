@@ -1,5 +1,4 @@
 -- `step_lent` meets its contract: a table of 128 records is stepped, and any other is refused and stays.
-use Rattle.monitor.proofs.Kit.{rules}
 use Rattle.monitor.specs.LendingLaws.{lent-full, lent-short}
 use Rattle.monitor.proofs.step_lent.Goals as goal
 

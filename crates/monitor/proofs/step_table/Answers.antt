@@ -1,5 +1,5 @@
 -- `step_table` meets its contract: a valid device is stepped, and any other is refused and stays.
-use Rattle.monitor.proofs.Kit.{sym, ◌∙◌, rules}
+use Rattle.monitor.proofs.Kit.{sym, ◌∙◌}
 use Rattle.monitor.specs.StepLaws.{stepped-valid, stepped-not}
 use Rattle.monitor.proofs.step_table.Goals as goal
 

@@ -1,5 +1,5 @@
 -- `stop_made` meets its contract: the instances and the count are anew, and the rest is as it was.
-use Rattle.monitor.proofs.Kit.{ap, rules, with_instances, with_lent}
+use Rattle.monitor.proofs.Kit.{ap, with_instances, with_lent}
 use Rattle.state.specs.declared.Instances.{Instances}
 use Rattle.monitor.proofs.stop_made.Goals as goal
 

@@ -1,5 +1,5 @@
 -- `uninstall_made` meets its contract: each table is made from its own, and the instances are as they were.
-use Rattle.monitor.proofs.Kit.{ap, ◌∙◌, rules}
+use Rattle.monitor.proofs.Kit.{ap, ◌∙◌}
 use Rattle.state.specs.declared.Apps.{Apps}
 use Rattle.tables.specs.Changing.{drop_grants}
 use Rattle.tables.specs.Held.{definitions_in}

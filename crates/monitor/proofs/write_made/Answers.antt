@@ -1,5 +1,5 @@
 -- `write_made` meets its contract: the resources are anew, and the rest is as it was.
-use Rattle.monitor.proofs.Kit.{rules, ap, with_resources}
+use Rattle.monitor.proofs.Kit.{ap, with_resources}
 use Rattle.monitor.proofs.write_made.Goals as goal
 
 pub returns : goal.returns

@@ -1,5 +1,5 @@
 -- `add_group` meets its contract: a full list stays, and else the number stands at the count.
-use Rattle.tables.proofs.Kit.{arith, rules, le-leb, lt-leb}
+use Rattle.tables.proofs.Kit.{le-leb, lt-leb}
 use Rattle.tables.specs.Changing.{add_group}
 use Rattle.tables.proofs.add_group.Goals as goal
 

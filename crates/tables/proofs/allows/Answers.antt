@@ -1,6 +1,6 @@
 -- `allows` meets its contract: 0 needs nothing, and any other permission has to be held.
-use Rattle.tables.proofs.Kit.{◌∙◌, eq-eqb, ne_eqb, rules}
-use Rattle.rules.specs.Permissions.{holds, allows}
+use Rattle.tables.proofs.Kit.{◌∙◌, eq-eqb, ne_eqb}
+use Rattle.rules.specs.Permissions.{allows}
 use Rattle.tables.proofs.allows.Goals as goal
 
 pub returns-then-permission-eq0 : goal.returns-then-permission-eq0

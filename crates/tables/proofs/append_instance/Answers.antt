@@ -1,5 +1,5 @@
 -- `append_instance` meets its contract: a full table comes back, and else the entry stands at the count.
-use Rattle.tables.proofs.Kit.{arith, rules, le-leb, lt-leb}
+use Rattle.tables.proofs.Kit.{le-leb, lt-leb}
 use Rattle.tables.specs.Changing.{append_instance}
 use Rattle.tables.proofs.append_instance.Goals as goal
 

@@ -1,5 +1,5 @@
 -- `append_resource` meets its contract: a full table comes back, and else the entry stands at the count.
-use Rattle.tables.proofs.Kit.{arith, le-leb, lt-leb}
+use Rattle.tables.proofs.Kit.{le-leb, lt-leb}
 use Rattle.tables.specs.Changing.{append_resource}
 use Rattle.tables.proofs.append_resource.Goals as goal
 

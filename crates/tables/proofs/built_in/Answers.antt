@@ -1,7 +1,7 @@
 -- `built_in` meets its contract: each of the sixteen rows of the table says what the built-in permission of its number
 -- is.
 use Prim.Native.Nat.{zero, suc}
-use Rattle.tables.proofs.Kit.{ℕ, ◌≡◌, refl, sym, ◌∙◌, cond, List, [], ◌∷◌, none, ◌<◌, ◌≤◌, arith, rules, get_or}
+use Rattle.tables.proofs.Kit.{ℕ, ◌≡◌, refl, sym, ◌∙◌, cond, List, [], ◌∷◌, none, ◌<◌, ◌≤◌, arith, get_or}
 use Rattle.tables.proofs.Kit.{eqb, eq-eqb, ne_eqb}
 use Rattle.rules.specs.Lists.{find, bind}
 use Rattle.rules.specs.Permissions.{built_ins, built_in}

@@ -1,10 +1,7 @@
 -- `change_app` meets its contract: at each turn one entry more of the list is changed.
-use Rattle.tables.proofs.Kit.{ℕ, ◌-◌, ◌≡◌, refl, List, arith, rules, Bound, bound, apps-long}
-use Rattle.tables.proofs.Kit.{Mapped, mapped-begin, mapped_next, mapped-ends}
-use mathlib.Core.Path.{ap₂}
-use Rattle.state.specs.declared.App.{App}
-use Rattle.state.specs.declared.Apps.{Apps}
-use Rattle.tables.specs.Changing.{changed_at, change_app}
+use Rattle.tables.proofs.Kit.{◌-◌, ◌≡◌}
+use Rattle.tables.proofs.Kit.{Mapped}
+use Rattle.tables.specs.Changing.{changed_at}
 use Rattle.tables.proofs.change_app.Given as goal
 
 abbrev pub invariant-loop-i : goal.invariant-loop-i

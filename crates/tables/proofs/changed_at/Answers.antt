@@ -1,5 +1,5 @@
 -- `changed_at` meets its contract: another app stays, and each change has its function.
-use Rattle.tables.proofs.Kit.{◌∙◌, eq-eqb, ne_eqb, rules}
+use Rattle.tables.proofs.Kit.{◌∙◌, eq-eqb, ne_eqb}
 use Rattle.tables.specs.Changing.{changed, changed_at}
 use Rattle.tables.proofs.changed_at.Goals as goal
 

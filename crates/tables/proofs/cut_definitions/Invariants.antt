@@ -1,7 +1,6 @@
 -- `cut_definitions` meets its contract: the places from the end of the list on are made zero, one at each turn.
-use Rattle.tables.proofs.Kit.{◌-◌, arith, rules, Bound, bound, definitions-long}
-use Rattle.tables.proofs.Kit.{Cleared, cleared-begin, cleared-next, cleared-ends, cleared-count}
-use Rattle.state.specs.Stored.{zero_definition}
+use Rattle.tables.proofs.Kit.{◌-◌}
+use Rattle.tables.proofs.Kit.{Cleared}
 use Rattle.tables.proofs.cut_definitions.Given as goal
 
 abbrev pub invariant-loop-j : goal.invariant-loop-j

@@ -1,6 +1,6 @@
 -- `cut_grants` meets its contract: the places from the end of the list on are made zero, one at each turn.
-use Rattle.tables.proofs.Kit.{ℕ, ◌-◌, ◌≡◌, refl, ap, ◌∙◌, set, arith, rules, Bound, bound, grants-long}
-use Rattle.tables.proofs.Kit.{Cleared, cleared-begin, cleared-next, cleared-ends, cleared-count}
+use Rattle.tables.proofs.Kit.{ℕ, ◌≡◌, refl, ap, ◌∙◌, set, arith, Bound, bound, grants-long}
+use Rattle.tables.proofs.Kit.{cleared-begin, cleared-next, cleared-ends, cleared-count}
 use Rattle.state.specs.declared.App.{App}
 use Rattle.tables.specs.Changing.{regrant}
 use Rattle.tables.proofs.cut_grants.Goals as goal

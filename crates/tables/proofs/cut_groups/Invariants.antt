@@ -1,7 +1,6 @@
 -- `cut_groups` meets its contract: the places from the end of the list on are made zero, one at each turn.
-use Rattle.tables.proofs.Kit.{ℕ, ◌-◌, ◌≡◌, refl, ap, ◌∙◌, set, arith, rules, Bound, bound, groups-long}
-use Rattle.tables.proofs.Kit.{Cleared, cleared-begin, cleared-next, cleared-ends, cleared-count}
-use Rattle.state.specs.declared.App.{App}
+use Rattle.tables.proofs.Kit.{◌-◌, ◌≡◌}
+use Rattle.tables.proofs.Kit.{Cleared}
 use Rattle.tables.specs.Changing.{regroup}
 use Rattle.tables.proofs.cut_groups.Given as goal
 

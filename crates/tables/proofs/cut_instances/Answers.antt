@@ -1,5 +1,5 @@
 -- `cut_instances` meets its contract: the places from the end of the list on are made zero, one at each turn.
-use Rattle.tables.proofs.Kit.{◌-◌, arith, rules, Bound, bound, instances-long}
+use Rattle.tables.proofs.Kit.{arith, Bound, bound, instances-long}
 use Rattle.tables.proofs.Kit.{Cleared, cleared-begin, cleared-next, cleared-ends, cleared-count}
 use Rattle.state.specs.Stored.{zero_instance}
 use Rattle.tables.proofs.cut_instances.Goals as goal

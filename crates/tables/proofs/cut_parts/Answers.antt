@@ -1,5 +1,5 @@
 -- `cut_parts` meets its contract: the places from the end of the list on are made zero, one at each turn.
-use Rattle.tables.proofs.Kit.{◌-◌, arith, rules, Bound, bound, parts-long}
+use Rattle.tables.proofs.Kit.{arith, Bound, bound, parts-long}
 use Rattle.tables.proofs.Kit.{Cleared, cleared-begin, cleared-next, cleared-ends, cleared-count}
 use Rattle.state.specs.Stored.{zero_part}
 use Rattle.tables.proofs.cut_parts.Goals as goal

@@ -1,5 +1,5 @@
 -- `defined_in` meets its contract: the definition at the place that is found is the first of the permission.
-use Rattle.tables.proofs.Kit.{◌<◌, sym, ◌∙◌, arith, rules, definitions-long}
+use Rattle.tables.proofs.Kit.{◌<◌, sym, ◌∙◌, arith, definitions-long}
 use Rattle.rules.specs.Lists.{bind}
 use Rattle.state.specs.Stored.{zero_definition}
 use Rattle.state.specs.Tables.{defined_in}

@@ -1,8 +1,7 @@
 -- `defines` meets its contract: at each turn the whole answer is the answer for the definitions that are left.
-use Rattle.tables.proofs.Kit.{definitions-long, eqb, ◌&&◌, ◌-◌, arith, rules, bound}
-use Rattle.tables.proofs.Kit.{Some, some-begin, some_next, some-hits, some-ends}
+use Rattle.tables.proofs.Kit.{definitions-long, bound}
+use Rattle.tables.proofs.Kit.{some-begin, some_next, some-hits, some-ends}
 use Rattle.state.specs.Tables.{defined_by}
-use Rattle.tables.specs.Held.{definitions_in}
 use Rattle.tables.proofs.defines.Goals as goal
 
 pub loop-i-init : goal.loop-i-init

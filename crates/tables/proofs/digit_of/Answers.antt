@@ -1,6 +1,6 @@
 -- `digit_of` meets its contract: a number that no instance has has no digit, and the digit of any other is a power of
 -- 2.
-use Rattle.tables.proofs.Kit.{◌-◌, sym, ap, ◌∙◌, arith, rules}
+use Rattle.tables.proofs.Kit.{◌-◌, sym, ap, ◌∙◌, arith}
 use lib.Pow.{shl_exact}
 use Rattle.tables.specs.Running.{digit_of}
 use Rattle.tables.specs.RunningLaws.{digit-inside, digit-none, digit-past}

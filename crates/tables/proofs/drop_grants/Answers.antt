@@ -1,11 +1,10 @@
 -- `drop_grants` meets its contract: at each turn one entry more of the list is changed.
-use Rattle.tables.proofs.Kit.{ℕ, ◌-◌, ◌≡◌, refl, List, arith, rules, Bound, bound, apps-long}
-use Rattle.tables.proofs.Kit.{Mapped, mapped-begin, mapped_next, mapped-ends}
+use Rattle.tables.proofs.Kit.{ℕ, refl, List, Bound, bound, apps-long}
+use Rattle.tables.proofs.Kit.{mapped-begin, mapped_next, mapped-ends}
 use mathlib.Core.Path.{ap₂}
 use Rattle.state.specs.declared.App.{App}
 use Rattle.state.specs.declared.Apps.{Apps}
-use Rattle.tables.specs.Held.{definitions_in}
-use Rattle.tables.specs.Changing.{undefined_grants, drop_grants}
+use Rattle.tables.specs.Changing.{drop_grants}
 use Rattle.tables.proofs.drop_grants.Goals as goal
 use Rattle.tables.proofs.drop_grants.Goals.{After-within-n}
 

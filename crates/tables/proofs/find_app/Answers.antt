@@ -1,8 +1,6 @@
 -- `find_app` meets its contract: at each turn the whole answer is the answer for the apps that are left.
-use Rattle.tables.proofs.Kit.{◌-◌, arith, rules, eq-eqb, ne_eqb, apps-long, bound}
-use Rattle.tables.proofs.Kit.{Placed, placed-begin, placed-next, placed-hits, placed-ends}
-use Rattle.tables.specs.Finding.{place_of, is_app}
-use Rattle.tables.specs.Held.{apps_in}
+use Rattle.tables.proofs.Kit.{eq-eqb, ne_eqb, apps-long, bound}
+use Rattle.tables.proofs.Kit.{placed-begin, placed-next, placed-hits, placed-ends}
 use Rattle.tables.proofs.find_app.Goals as goal
 
 pub loop-i-init : goal.loop-i-init

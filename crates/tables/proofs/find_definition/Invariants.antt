@@ -1,6 +1,6 @@
 -- `find_definition` meets its contract: at each turn the whole answer is the answer for the definitions that are left.
-use Rattle.tables.proofs.Kit.{◌-◌, arith, rules, eq-eqb, ne_eqb, definitions-long, bound, sym, ◌∙◌}
-use Rattle.tables.proofs.Kit.{Placed, placed-begin, placed-next, placed-hits, placed-ends}
+use Rattle.tables.proofs.Kit.{◌-◌}
+use Rattle.tables.proofs.Kit.{Placed}
 use Rattle.tables.specs.Finding.{place_of, is_definition}
 use Rattle.tables.specs.Held.{definitions_in}
 use Rattle.tables.proofs.find_definition.Given as goal

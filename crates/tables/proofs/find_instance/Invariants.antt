@@ -1,6 +1,6 @@
 -- `find_instance` meets its contract: at each turn the whole answer is the answer for the instances that are left.
-use Rattle.tables.proofs.Kit.{◌-◌, arith, rules, eq-eqb, ne_eqb, instances-long, bound, sym, ◌∙◌}
-use Rattle.tables.proofs.Kit.{Placed, placed-begin, placed-next, placed-hits, placed-ends}
+use Rattle.tables.proofs.Kit.{◌-◌}
+use Rattle.tables.proofs.Kit.{Placed}
 use Rattle.tables.specs.Finding.{place_of, is_instance}
 use Rattle.tables.specs.Held.{instances_in}
 use Rattle.tables.proofs.find_instance.Given as goal

@@ -1,6 +1,6 @@
 -- `find_part` meets its contract: at each turn the whole answer is the answer for the components that are left.
-use Rattle.tables.proofs.Kit.{◌-◌, arith, rules, eq-eqb, ne_eqb, parts-long, bound}
-use Rattle.tables.proofs.Kit.{Placed, placed-begin, placed-next, placed-hits, placed-ends}
+use Rattle.tables.proofs.Kit.{◌-◌}
+use Rattle.tables.proofs.Kit.{Placed}
 use Rattle.tables.specs.Finding.{place_of, is_part}
 use Rattle.tables.specs.Held.{parts_in}
 use Rattle.tables.proofs.find_part.Given as goal

@@ -1,9 +1,6 @@
 -- `find_resource` meets its contract: at each turn the whole answer is the answer for the resources that are left.
-use Rattle.tables.proofs.Kit.{◌-◌, arith, rules, resources-long, bound, sym, ◌∙◌}
-use Rattle.tables.proofs.Kit.{Placed, placed-begin, placed-next, placed-hits, placed-ends}
-use Rattle.tables.specs.Finding.{place_of}
-use Rattle.tables.specs.Held.{resources_in}
-use Rattle.state.specs.Tables.{is_resource}
+use Rattle.tables.proofs.Kit.{resources-long, bound, sym, ◌∙◌}
+use Rattle.tables.proofs.Kit.{placed-begin, placed-next, placed-hits, placed-ends}
 use Rattle.tables.proofs.find_resource.Goals as goal
 
 pub loop-i-init : goal.loop-i-init

@@ -1,10 +1,7 @@
 -- `granted` meets its contract: at each turn the whole answer is the answer for the apps that are left.
-use Rattle.tables.proofs.Kit.{sym, ◌∙◌, apps-long, eqb, ◌&&◌, ◌-◌, arith, rules, bound}
-use Rattle.tables.proofs.Kit.{Some, some_as, some_next, some-hits, some-ends}
-use Rattle.rules.specs.Lists.{mem}
-use Rattle.state.specs.Stored.{row_of}
-use Rattle.state.specs.Tables.{app_number, granted_in}
-use Rattle.tables.specs.Held.{apps_in, rows_in}
+use Rattle.tables.proofs.Kit.{sym, ◌∙◌, apps-long, bound}
+use Rattle.tables.proofs.Kit.{some_as, some_next, some-hits, some-ends}
+use Rattle.tables.specs.Held.{apps_in}
 use Rattle.tables.specs.LookingLaws.{granted-any}
 use Rattle.tables.proofs.granted.Goals as goal
 

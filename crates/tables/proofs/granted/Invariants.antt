@@ -1,11 +1,10 @@
 -- `granted` meets its contract: at each turn the whole answer is the answer for the apps that are left.
-use Rattle.tables.proofs.Kit.{sym, ◌∙◌, apps-long, eqb, ◌&&◌, ◌-◌, arith, rules, bound}
-use Rattle.tables.proofs.Kit.{Some, some_as, some_next, some-hits, some-ends}
+use Rattle.tables.proofs.Kit.{eqb, ◌&&◌, ◌-◌}
+use Rattle.tables.proofs.Kit.{Some}
 use Rattle.rules.specs.Lists.{mem}
 use Rattle.state.specs.Stored.{row_of}
 use Rattle.state.specs.Tables.{app_number, granted_in}
-use Rattle.tables.specs.Held.{apps_in, rows_in}
-use Rattle.tables.specs.LookingLaws.{granted-any}
+use Rattle.tables.specs.Held.{rows_in}
 use Rattle.tables.proofs.granted.Given as goal
 
 abbrev pub invariant-loop-i : goal.invariant-loop-i

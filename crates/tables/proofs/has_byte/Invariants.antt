@@ -1,6 +1,6 @@
 -- `has_byte` meets its contract: at each turn the whole answer is the answer for the bytes that are left.
-use Rattle.tables.proofs.Kit.{refl, eqb, take, eq-eqb, ne_eqb, sym, ◌∙◌, ◌-◌, arith, rules, bound}
-use Rattle.tables.proofs.Kit.{Some, some-begin, some_next, some-hits, some-ends}
+use Rattle.tables.proofs.Kit.{eqb, take, ◌-◌}
+use Rattle.tables.proofs.Kit.{Some}
 use Rattle.rules.specs.Lists.{mem}
 use Rattle.tables.proofs.has_byte.Given as goal
 

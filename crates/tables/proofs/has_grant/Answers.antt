@@ -1,5 +1,5 @@
 -- `has_grant` meets its contract: another app's number fails the test, and else the list decides.
-use Rattle.tables.proofs.Kit.{ne_eqb, eq-eqb, ◌∙◌, rules}
+use Rattle.tables.proofs.Kit.{ne_eqb, eq-eqb, ◌∙◌}
 use Rattle.tables.proofs.has_grant.Goals as goal
 
 pub returns-then-a-app : goal.returns-then-a-app

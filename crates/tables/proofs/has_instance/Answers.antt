@@ -1,5 +1,5 @@
 -- `has_instance` meets its contract: a place is found exactly if some entry passes.
-use Rattle.tables.proofs.Kit.{rules, ap, ◌∙◌}
+use Rattle.tables.proofs.Kit.{ap, ◌∙◌}
 use Rattle.tables.specs.Finding.{is_at}
 use Rattle.tables.specs.FindingLaws.{at-if-any}
 use Rattle.tables.proofs.has_instance.Goals as goal

@@ -1,5 +1,5 @@
 -- `hold` meets its contract: the rule's questions in their order; each level has its half of the rule.
-use Rattle.tables.proofs.Kit.{◌≡◌, sym, ◌∙◌, true, take, eq-eqb, ne_eqb, not-true, not-false, rules}
+use Rattle.tables.proofs.Kit.{◌≡◌, sym, ◌∙◌, true, take, eq-eqb, ne_eqb}
 use Rattle.rules.specs.Lists.{mem}
 use Rattle.rules.specs.Permissions.{hold}
 use Rattle.state.specs.Tables.{view_of}

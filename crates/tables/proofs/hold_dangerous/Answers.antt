@@ -1,5 +1,5 @@
 -- `hold_dangerous` meets its contract: the individual grant first, then the group.
-use Rattle.tables.proofs.Kit.{◌≡◌, sym, ap, ◌∙◌, rules}
+use Rattle.tables.proofs.Kit.{◌≡◌, sym, ap, ◌∙◌}
 use Rattle.state.specs.Tables.{grouped_in}
 use Rattle.tables.specs.Held.{rows_in}
 use Rattle.tables.specs.Looking.{hold_dangerous}

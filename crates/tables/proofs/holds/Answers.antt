@@ -1,5 +1,5 @@
 -- `holds` meets its contract: an undefined permission is not held, and the hold rule decides on a defined one.
-use Rattle.tables.proofs.Kit.{sym, ap, ◌∙◌, [], Option, rules}
+use Rattle.tables.proofs.Kit.{sym, ap, ◌∙◌, [], Option}
 use Rattle.rules.specs.Lists.{test}
 use Rattle.rules.specs.Permissions.{known, hold, holds, is_held}
 use Rattle.state.specs.Tables.{view_of}

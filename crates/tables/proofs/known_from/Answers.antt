@@ -1,5 +1,5 @@
 -- `known_from` meets its contract: the app at the place that is found is the first of that number.
-use Rattle.tables.proofs.Kit.{◌<◌, sym, ◌∙◌, arith, rules, apps-long}
+use Rattle.tables.proofs.Kit.{◌<◌, sym, ◌∙◌, arith, apps-long}
 use Rattle.rules.specs.Lists.{map_option}
 use Rattle.state.specs.Tables.{known_from}
 use Rattle.tables.specs.Finding.{is_app}

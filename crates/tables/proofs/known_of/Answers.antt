@@ -1,5 +1,5 @@
 -- `known_of` meets its contract: the platform's definition is the first of the two searches.
-use Rattle.tables.proofs.Kit.{sym, ◌∙◌, rules}
+use Rattle.tables.proofs.Kit.{sym, ◌∙◌}
 use Rattle.rules.specs.Lists.{or_find}
 use Rattle.rules.specs.Permissions.{built_in, known}
 use Rattle.state.specs.Tables.{view_of}

@@ -1,5 +1,5 @@
 -- `owner_of` meets its contract: the component at the place that is found is the first of its number.
-use Rattle.tables.proofs.Kit.{◌<◌, sym, ◌∙◌, arith, rules, parts-long}
+use Rattle.tables.proofs.Kit.{◌<◌, sym, ◌∙◌, arith, parts-long}
 use Rattle.rules.specs.Lists.{map_option, or_else}
 use Rattle.state.specs.Stored.{zero_part}
 use Rattle.state.specs.Tables.{part_at}

@@ -1,8 +1,7 @@
 -- `owns` meets its contract: at each turn the whole answer is the answer for the components that are left.
-use Rattle.tables.proofs.Kit.{parts-long, eqb, ◌&&◌, ◌-◌, arith, rules, bound}
-use Rattle.tables.proofs.Kit.{Some, some-begin, some_next, some-hits, some-ends}
+use Rattle.tables.proofs.Kit.{parts-long, bound}
+use Rattle.tables.proofs.Kit.{some-begin, some_next, some-hits, some-ends}
 use Rattle.state.specs.Tables.{owned_by}
-use Rattle.tables.specs.Held.{parts_in}
 use Rattle.tables.proofs.owns.Goals as goal
 
 pub loop-i-init : goal.loop-i-init

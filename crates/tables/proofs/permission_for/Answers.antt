@@ -1,5 +1,4 @@
 -- `permission_for` meets its contract: each operation has its permission.
-use Rattle.tables.proofs.Kit.{rules}
 use Rattle.rules.specs.Grounds.{permission_for}
 use Rattle.tables.proofs.permission_for.Goals as goal
 

@@ -1,7 +1,6 @@
 -- `remove_app` meets its contract: at each turn those that stay of the apps passed stand at the front.
-use Rattle.tables.proofs.Kit.{◌-◌, eq-eqb, ne_eqb, not, ap, ◌∙◌, arith, rules, Bound, bound, apps-long}
-use Rattle.tables.proofs.Kit.{Squeezed, squeezed-begin, squeezed-keep, squeezed-skip, squeezed-ends}
-use Rattle.tables.specs.Finding.{is_app}
+use Rattle.tables.proofs.Kit.{eq-eqb, ne_eqb, not, ap, ◌∙◌, Bound, bound, apps-long}
+use Rattle.tables.proofs.Kit.{squeezed-begin, squeezed-keep, squeezed-skip, squeezed-ends}
 use Rattle.tables.specs.Held.{apps_table}
 use Rattle.tables.proofs.remove_app.Goals as goal
 use Rattle.tables.proofs.remove_app.Goals.{After-within-n}

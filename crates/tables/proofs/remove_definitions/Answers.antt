@@ -1,7 +1,7 @@
 -- `remove_definitions` meets its contract: at each turn those that stay of the definitions passed stand at the front.
-use Rattle.tables.proofs.Kit.{◌-◌, eqb, eq-eqb, ne_eqb, not, ap, ◌∙◌, arith, rules, Bound, bound}
+use Rattle.tables.proofs.Kit.{eq-eqb, ne_eqb, not, ap, ◌∙◌, Bound, bound}
 use Rattle.tables.proofs.Kit.{definitions-long}
-use Rattle.tables.proofs.Kit.{Squeezed, squeezed-begin, squeezed-keep, squeezed-skip, squeezed-ends}
+use Rattle.tables.proofs.Kit.{squeezed-begin, squeezed-keep, squeezed-skip, squeezed-ends}
 use Rattle.tables.specs.Held.{definitions_table}
 use Rattle.tables.proofs.remove_definitions.Goals as goal
 use Rattle.tables.proofs.remove_definitions.Goals.{After-within-n}

@@ -1,8 +1,6 @@
 -- `remove_definitions` meets its contract: at each turn those that stay of the definitions passed stand at the front.
-use Rattle.tables.proofs.Kit.{◌-◌, eqb, eq-eqb, ne_eqb, not, ap, ◌∙◌, arith, rules, Bound, bound}
-use Rattle.tables.proofs.Kit.{definitions-long}
-use Rattle.tables.proofs.Kit.{Squeezed, squeezed-begin, squeezed-keep, squeezed-skip, squeezed-ends}
-use Rattle.tables.specs.Held.{definitions_table}
+use Rattle.tables.proofs.Kit.{◌-◌, eqb, not}
+use Rattle.tables.proofs.Kit.{Squeezed}
 use Rattle.tables.proofs.remove_definitions.Given as goal
 
 abbrev pub invariant-loop-i : goal.invariant-loop-i

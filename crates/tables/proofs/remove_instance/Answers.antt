@@ -1,8 +1,7 @@
 -- `remove_instance` meets its contract: at each turn those that stay of the instances passed stand at the front.
-use Rattle.tables.proofs.Kit.{◌-◌, sym, eq-eqb, ne_eqb, not, ap, ◌∙◌, arith, rules, Bound, bound, instances-long}
-use Rattle.tables.proofs.Kit.{Squeezed, squeezed-begin, squeezed-keep, squeezed-skip, squeezed-ends}
+use Rattle.tables.proofs.Kit.{sym, eq-eqb, ne_eqb, not, ap, ◌∙◌, Bound, bound, instances-long}
+use Rattle.tables.proofs.Kit.{squeezed-begin, squeezed-keep, squeezed-skip, squeezed-ends}
 use mathlib.Core.Path.{ap₂}
-use Rattle.tables.specs.Finding.{is_instance}
 use Rattle.tables.specs.Changing.{instances_with, remove_instance}
 use Rattle.tables.proofs.remove_instance.Goals as goal
 use Rattle.tables.proofs.remove_instance.Goals.{After-within-n}

@@ -1,7 +1,6 @@
 -- `remove_parts` meets its contract: at each turn those that stay of the parts passed stand at the front.
-use Rattle.tables.proofs.Kit.{◌-◌, eqb, eq-eqb, ne_eqb, not, ap, ◌∙◌, arith, rules, Bound, bound, parts-long}
-use Rattle.tables.proofs.Kit.{Squeezed, squeezed-begin, squeezed-keep, squeezed-skip, squeezed-ends}
-use Rattle.tables.specs.Held.{parts_table}
+use Rattle.tables.proofs.Kit.{◌-◌, eqb, not}
+use Rattle.tables.proofs.Kit.{Squeezed}
 use Rattle.tables.proofs.remove_parts.Given as goal
 
 abbrev pub invariant-loop-i : goal.invariant-loop-i

@@ -1,8 +1,7 @@
 -- `remove_resources` meets its contract: at each turn those that stay of the resources passed stand at the front.
-use Rattle.tables.proofs.Kit.{◌-◌, sym, not, ap, ◌∙◌, arith, rules, Bound, bound, resources-long}
-use Rattle.tables.proofs.Kit.{Squeezed, squeezed-begin, squeezed-keep, squeezed-skip, squeezed-ends}
-use Rattle.state.specs.Tables.{owned_by}
-use Rattle.tables.specs.Held.{parts_in, resources_table}
+use Rattle.tables.proofs.Kit.{sym, not, ap, ◌∙◌, Bound, bound, resources-long}
+use Rattle.tables.proofs.Kit.{squeezed-begin, squeezed-keep, squeezed-skip, squeezed-ends}
+use Rattle.tables.specs.Held.{resources_table}
 use Rattle.tables.proofs.remove_resources.Goals as goal
 use Rattle.tables.proofs.remove_resources.Goals.{After-within-n}
 

@@ -1,8 +1,8 @@
 -- `remove_resources` meets its contract: at each turn those that stay of the resources passed stand at the front.
-use Rattle.tables.proofs.Kit.{◌-◌, sym, not, ap, ◌∙◌, arith, rules, Bound, bound, resources-long}
-use Rattle.tables.proofs.Kit.{Squeezed, squeezed-begin, squeezed-keep, squeezed-skip, squeezed-ends}
+use Rattle.tables.proofs.Kit.{◌-◌, not}
+use Rattle.tables.proofs.Kit.{Squeezed}
 use Rattle.state.specs.Tables.{owned_by}
-use Rattle.tables.specs.Held.{parts_in, resources_table}
+use Rattle.tables.specs.Held.{parts_in}
 use Rattle.tables.proofs.remove_resources.Given as goal
 
 abbrev pub invariant-loop-i : goal.invariant-loop-i

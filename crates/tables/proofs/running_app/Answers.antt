@@ -1,5 +1,5 @@
 -- `running_app` meets its contract: the instance at the place that is found is the first of its number.
-use Rattle.tables.proofs.Kit.{◌<◌, sym, ◌∙◌, arith, rules, instances-long}
+use Rattle.tables.proofs.Kit.{◌<◌, sym, ◌∙◌, arith, instances-long}
 use Rattle.rules.specs.Lists.{map_option, or_else}
 use Rattle.state.specs.Stored.{zero_instance}
 use Rattle.state.specs.Tables.{run_in}

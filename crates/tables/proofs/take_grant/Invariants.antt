@@ -1,9 +1,7 @@
 -- `take_grant` meets its contract: at each turn those that stay of the grants passed stand at the front.
-use Rattle.tables.proofs.Kit.{◌-◌, ◌≡◌, refl, eqb, eq-eqb, ne_eqb, not, ap, ◌∙◌, set, get_or, take, arith, rules}
-use Rattle.tables.proofs.Kit.{Bound, bound, grants-long}
-use Rattle.tables.proofs.Kit.{Squeezed, squeezed-begin, squeezed-keep, squeezed-skip, squeezed-ends}
-use Rattle.state.specs.declared.App.{App}
-use Rattle.tables.specs.Changing.{regrant, with_grants}
+use Rattle.tables.proofs.Kit.{◌-◌, ◌≡◌, eqb, not}
+use Rattle.tables.proofs.Kit.{Squeezed}
+use Rattle.tables.specs.Changing.{regrant}
 use Rattle.tables.proofs.take_grant.Given as goal
 
 abbrev pub invariant-loop-i : goal.invariant-loop-i

@@ -1,7 +1,7 @@
 -- `take_group` meets its contract: at each turn those that stay of the groups passed stand at the front.
-use Rattle.tables.proofs.Kit.{◌-◌, ◌≡◌, refl, eqb, eq-eqb, ne_eqb, not, ap, ◌∙◌, set, get_or, take, arith, rules}
+use Rattle.tables.proofs.Kit.{refl, eq-eqb, ne_eqb, not, ap, ◌∙◌, set, get_or, take}
 use Rattle.tables.proofs.Kit.{Bound, bound, groups-long}
-use Rattle.tables.proofs.Kit.{Squeezed, squeezed-begin, squeezed-keep, squeezed-skip, squeezed-ends}
+use Rattle.tables.proofs.Kit.{squeezed-begin, squeezed-keep, squeezed-skip, squeezed-ends}
 use Rattle.state.specs.declared.App.{App}
 use Rattle.tables.specs.Changing.{regroup, with_groups}
 use Rattle.tables.proofs.take_group.Goals as goal

@@ -1,10 +1,8 @@
 -- `undefined_grants` meets its contract: at each turn those that stay of the grants passed stand at the front.
-use Rattle.tables.proofs.Kit.{◌-◌, ◌≡◌, refl, sym, not, ap, ◌∙◌, set, get_or, take, arith, rules, Bound, bound}
+use Rattle.tables.proofs.Kit.{refl, sym, not, ap, ◌∙◌, set, get_or, take, Bound, bound}
 use Rattle.tables.proofs.Kit.{grants-long}
-use Rattle.tables.proofs.Kit.{Squeezed, squeezed-begin, squeezed-keep, squeezed-skip, squeezed-ends}
+use Rattle.tables.proofs.Kit.{squeezed-begin, squeezed-keep, squeezed-skip, squeezed-ends}
 use Rattle.state.specs.declared.App.{App}
-use Rattle.state.specs.Tables.{defined_by}
-use Rattle.tables.specs.Held.{definitions_in}
 use Rattle.tables.specs.Changing.{regrant, with_grants, undefined_grants}
 use Rattle.tables.proofs.undefined_grants.Goals as goal
 use Rattle.tables.proofs.undefined_grants.Goals.{After-within-n}

@@ -1,11 +1,9 @@
 -- `undefined_grants` meets its contract: at each turn those that stay of the grants passed stand at the front.
-use Rattle.tables.proofs.Kit.{◌-◌, ◌≡◌, refl, sym, not, ap, ◌∙◌, set, get_or, take, arith, rules, Bound, bound}
-use Rattle.tables.proofs.Kit.{grants-long}
-use Rattle.tables.proofs.Kit.{Squeezed, squeezed-begin, squeezed-keep, squeezed-skip, squeezed-ends}
-use Rattle.state.specs.declared.App.{App}
+use Rattle.tables.proofs.Kit.{◌-◌, ◌≡◌, not}
+use Rattle.tables.proofs.Kit.{Squeezed}
 use Rattle.state.specs.Tables.{defined_by}
 use Rattle.tables.specs.Held.{definitions_in}
-use Rattle.tables.specs.Changing.{regrant, with_grants, undefined_grants}
+use Rattle.tables.specs.Changing.{regrant}
 use Rattle.tables.proofs.undefined_grants.Given as goal
 
 abbrev pub invariant-loop-i : goal.invariant-loop-i

@@ -1,5 +1,4 @@
 -- `with_digit` meets its contract: the operation on the digit itself.
-use Rattle.tables.proofs.Kit.{rules}
 use Rattle.tables.proofs.with_digit.Goals as goal
 
 pub returns : goal.returns

@@ -1,5 +1,4 @@
 -- `without_digit` meets its contract: the operation on the digit itself.
-use Rattle.tables.proofs.Kit.{rules}
 use Rattle.tables.proofs.without_digit.Goals as goal
 
 pub returns : goal.returns

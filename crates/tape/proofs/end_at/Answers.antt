@@ -1,5 +1,5 @@
 -- `end_at` meets its contract: where the manifests end, the definition asks for the same three tests.
-use Rattle.tape.proofs.Kit.{arith, rules}
+use Rattle.tape.proofs.Kit.{arith}
 use Rattle.tape.proofs.Places.{passed-cut, records-many, records-ill, records-whole}
 use Rattle.tape.proofs.end_at.Goals as goal
 

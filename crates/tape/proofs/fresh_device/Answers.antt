@@ -1,5 +1,4 @@
 -- `fresh_device` meets its contract: the lists of the fresh state are empty, so that their arrays hold zeros only.
-use Rattle.tape.proofs.Kit.{rules}
 use Rattle.state.specs.Tables.{fresh}
 use Rattle.state.specs.Stored.{digits_of, mask_of, device_of}
 use Rattle.tape.proofs.fresh_device.Goals as goal

@@ -1,5 +1,5 @@
 -- `manifest_place` meets its contract: in a tape every manifest that is passed is there.
-use Rattle.tape.proofs.Kit.{◌≡◌, ap, ◌∙◌, ◌-◌, ◌≤◌, arith}
+use Rattle.tape.proofs.Kit.{◌≡◌, ap, ◌∙◌, arith}
 use Rattle.history.specs.Tape.{manifest_place}
 use Rattle.history.specs.TapeLaws.{place-first}
 use Rattle.tape.proofs.Places.{place-ends, place-there}

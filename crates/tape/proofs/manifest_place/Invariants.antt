@@ -1,8 +1,6 @@
 -- `manifest_place` meets its contract: in a tape every manifest that is passed is there.
-use Rattle.tape.proofs.Kit.{◌≡◌, ap, ◌∙◌, ◌-◌, ◌≤◌, arith}
+use Rattle.tape.proofs.Kit.{◌≡◌, ◌-◌, ◌≤◌}
 use Rattle.history.specs.Tape.{manifest_place}
-use Rattle.history.specs.TapeLaws.{place-first}
-use Rattle.tape.proofs.Places.{place-ends, place-there}
 use Rattle.tape.proofs.manifest_place.Given as goal
 
 abbrev pub invariant-loop-i : goal.invariant-loop-i

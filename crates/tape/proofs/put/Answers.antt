@@ -1,6 +1,5 @@
 -- `put` meets its contract: what is left of the bytes is still to be written after those that are.
-use Rattle.tape.proofs.Kit.{◌≡◌, refl, ◌+◌, ◌-◌, ◌≤◌, arith, length, drop, length-set}
-use Rattle.tape.specs.Written.{Left}
+use Rattle.tape.proofs.Kit.{refl, arith, length-set}
 use Rattle.tape.proofs.Writing.{begins-at, goes_one, ends-all}
 use Rattle.tape.proofs.put.Goals as goal
 

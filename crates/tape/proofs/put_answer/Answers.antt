@@ -1,5 +1,5 @@
 -- `put_answer` meets its contract: a ground has one digit, a refusal at most two and a value at most ten.
-use Rattle.tape.proofs.Kit.{arith, rules}
+use Rattle.tape.proofs.Kit.{arith}
 use Rattle.tape.proofs.Fields.{ground-field, number-field, done-written, refused-written}
 use Rattle.tape.proofs.put_answer.Goals as goal
 
@@ -27,8 +27,11 @@ pub returns-in-Done : goal.returns-in-Done
 returns-in-Done c =
     let told = c.in-Done.is in
     let same = c.wide32.ensures.value in
-    let number = c.ground_number.ensures in record { written = done-written told same number c.put-a.ensures c.put_field-b.ensures
-          c.put_value.ensures.written; upper_bound = omega (arith, ground-field _ _ 32 told same number) }
+    let number = c.ground_number.ensures in record {
+      written = done-written told same number c.put-a.ensures c.put_field-b.ensures
+          c.put_value.ensures.written;
+      upper_bound = omega (arith, ground-field _ _ 32 told same number);
+    }
 
 pub returns-in-Refused : goal.returns-in-Refused
 returns-in-Refused c =

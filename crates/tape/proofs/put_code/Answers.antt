@@ -1,5 +1,5 @@
 -- `put_code` meets its contract: a byte has at most three digits.
-use Rattle.tape.proofs.Kit.{arith, rules}
+use Rattle.tape.proofs.Kit.{arith}
 use Rattle.tape.proofs.Fields.{code-field, same-field}
 use Rattle.tape.proofs.put_code.Goals as goal
 

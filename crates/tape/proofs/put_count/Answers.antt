@@ -1,5 +1,5 @@
 -- `put_count` meets its contract: a number of 64 bits has at most twenty digits.
-use Rattle.tape.proofs.Kit.{arith, rules}
+use Rattle.tape.proofs.Kit.{arith}
 use Rattle.tape.proofs.Fields.{count-field}
 use Rattle.tape.proofs.put_count.Goals as goal
 

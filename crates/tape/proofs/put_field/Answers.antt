@@ -1,5 +1,5 @@
 -- `put_field` meets its contract: the number, then one byte.
-use Rattle.tape.proofs.Kit.{arith, rules}
+use Rattle.tape.proofs.Kit.{arith}
 use Rattle.tape.proofs.Writing.{one, then}
 use Rattle.tape.proofs.Fields.{length-field}
 use Rattle.tape.proofs.put_field.Goals as goal

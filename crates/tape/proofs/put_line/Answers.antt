@@ -1,5 +1,5 @@
 -- `put_line` meets its contract: the place has at most four digits, and code and answer follow it.
-use Rattle.tape.proofs.Kit.{arith, rules}
+use Rattle.tape.proofs.Kit.{arith}
 use Rattle.tape.proofs.Fields.{place-field, line-written}
 use Rattle.tape.proofs.put_line.Goals as goal
 
@@ -17,5 +17,8 @@ put_answer-requires c =
 
 pub returns : goal.returns
 returns c =
-    record { written = line-written c.args.place c.args.code c.args.answer c.put_field-a.ensures
-          c.put_code-b.ensures.written c.put_answer.ensures.written; upper_bound = omega (arith, place-field c.args.place 32 c.requires.0) }
+    record {
+      written = line-written c.args.place c.args.code c.args.answer c.put_field-a.ensures
+          c.put_code-b.ensures.written c.put_answer.ensures.written;
+      upper_bound = omega (arith, place-field c.args.place 32 c.requires.0);
+    }

@@ -1,8 +1,6 @@
 -- `put_lines` meets its contract: at each turn device and lent table are those of the run and the lines so far are
 -- written.
-use Rattle.tape.proofs.Kit.{◌≡◌, refl, ◌+◌, ◌-◌, ◌*◌, ◌≤◌, arith, rules, length}
-use Rattle.tape.specs.Reading.{held_by}
-use Rattle.tape.specs.Ran.{RanAt}
+use Rattle.tape.proofs.Kit.{refl, arith}
 use Rattle.tape.proofs.Running.{ran-none, ran-more, ran_to}
 use Rattle.tape.proofs.put_lines.Goals as goal
 
@@ -11,8 +9,7 @@ loop-i-init c = (omega arith, refl, omega arith, ran-none _ _ _ _)
 
 pub loop-i-preserved : goal.loop-i-preserved
 loop-i-preserved c =
-    let l = c.loop-i in
-    (
+    let l = c.loop-i in (
       omega arith,
       omega arith,
       omega arith,

@@ -1,9 +1,8 @@
 -- `put_lines` meets its contract: at each turn device and lent table are those of the run and the lines so far are
 -- written.
-use Rattle.tape.proofs.Kit.{◌≡◌, refl, ◌+◌, ◌-◌, ◌*◌, ◌≤◌, arith, rules, length}
+use Rattle.tape.proofs.Kit.{◌≡◌, ◌+◌, ◌-◌, ◌*◌, ◌≤◌, length}
 use Rattle.tape.specs.Reading.{held_by}
 use Rattle.tape.specs.Ran.{RanAt}
-use Rattle.tape.proofs.Running.{ran-none, ran-more, ran_to}
 use Rattle.tape.proofs.put_lines.Given as goal
 
 abbrev pub invariant-loop-i : goal.invariant-loop-i

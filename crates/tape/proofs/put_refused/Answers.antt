@@ -1,5 +1,5 @@
 -- `put_refused` meets its contract: the one line is written where it has room.
-use Rattle.tape.proofs.Kit.{arith, rules}
+use Rattle.tape.proofs.Kit.{arith}
 use Rattle.tape.specs.FilledLaws.{too_short}
 use Rattle.tape.proofs.Whole.{done}
 use Rattle.tape.proofs.put_refused.Goals as goal

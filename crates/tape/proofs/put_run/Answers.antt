@@ -1,5 +1,5 @@
 -- `put_run` meets its contract: the lines are those of a run from the fresh device, and the counts are of what it left.
-use Rattle.tape.proofs.Kit.{◌∙◌, arith, rules}
+use Rattle.tape.proofs.Kit.{◌∙◌, arith}
 use Rattle.tape.proofs.Running.{ran-all}
 use Rattle.tape.proofs.put_run.Goals as goal
 

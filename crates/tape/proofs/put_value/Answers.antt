@@ -1,5 +1,5 @@
 -- `put_value` meets its contract: a value has at most ten digits.
-use Rattle.tape.proofs.Kit.{arith, rules}
+use Rattle.tape.proofs.Kit.{arith}
 use Rattle.tape.proofs.Fields.{value-field, same-field}
 use Rattle.tape.proofs.put_value.Goals as goal
 

@@ -1,5 +1,5 @@
 -- `run` meets its contract: the two tests are those of the definition, and the lines are those of the run.
-use Rattle.tape.proofs.Kit.{arith, rules}
+use Rattle.tape.proofs.Kit.{arith}
 use Rattle.tape.proofs.Places.{tape-ends}
 use Rattle.tape.specs.Reading.{held_by}
 use Rattle.tape.proofs.Whole.{told_at, told-count, told-not, no_run, short-run, done-run}
@@ -36,8 +36,8 @@ pub returns-in-NoTape : goal.returns-in-NoTape
 returns-in-NoTape c =
     let a = c.args in
     let both = no_run a.tape.now a.out.now (held_by a.d a.lent)
-        (told-not a.tape.now c.start_of.ensures c.in-NoTape.is) c.put_refused-wrote.ensures.value
-        c.put_refused-wrote.ensures.out_after
+    (told-not a.tape.now c.start_of.ensures c.in-NoTape.is) c.put_refused-wrote.ensures.value
+    c.put_refused-wrote.ensures.out_after
     in record { value = both.0; out_after = both.1 }
 
 pub returns-else-out-n : goal.returns-else-out-n
@@ -46,5 +46,5 @@ returns-else-out-n c =
     let t = told-count _ (told_at a.tape.now c.start_of.ensures c.in-At.is)
     c.u16_at-n.ensures in
     let both = done-run a.tape.now a.out.now (held_by a.d a.lent) t (omega arith) c.put_lines-lines.ensures.ran_at
-        (omega arith)
+    (omega arith)
     in record { value = both.0; out_after = both.1 }

@@ -1,6 +1,6 @@
 -- `sheet_of` meets its contract: the two tests are those of the definition, and first line, lines and last line are
 -- written one after the other.
-use Rattle.tape.proofs.Kit.{arith, rules}
+use Rattle.tape.proofs.Kit.{arith}
 use Rattle.tape.proofs.Places.{tape-ends}
 use Rattle.tape.proofs.Whole.{told_at, told-count, told-not, no-sheet, short-sheet, done-sheet}
 use Rattle.tape.proofs.sheet_of.Goals as goal
@@ -49,8 +49,8 @@ pub returns-in-NoTape : goal.returns-in-NoTape
 returns-in-NoTape c =
     let a = c.args in
     let both = no-sheet a.tape.now a.out.now
-        (told-not a.tape.now c.start_of.ensures c.in-NoTape.is) c.put_refused.ensures.value
-        c.put_refused.ensures.out_after
+    (told-not a.tape.now c.start_of.ensures c.in-NoTape.is) c.put_refused.ensures.value
+    c.put_refused.ensures.out_after
     in record { value = both.0; out_after = both.1 }
 
 pub returns-else-out-n : goal.returns-else-out-n
@@ -59,5 +59,5 @@ returns-else-out-n c =
     let t = told-count _ (told_at a.tape.now c.start_of.ensures c.in-At.is)
     c.u16_at-n.ensures in
     let both = done-sheet a.tape.now a.out.now t (omega arith) c.put-a.ensures c.put_field-b.ensures
-        c.put_run-end.ensures.written (omega arith)
+    c.put_run-end.ensures.written (omega arith)
     in record { value = both.0; out_after = both.1 }

@@ -1,7 +1,6 @@
 -- `start_of` meets its contract: at each turn the manifests passed are there and short enough; where one is not, the
 -- bytes are no tape.
-use Rattle.tape.proofs.Kit.{◌-◌, ◌≤◌, arith, rules}
-use Rattle.tape.specs.Reading.{Passed}
+use Rattle.tape.proofs.Kit.{arith}
 use Rattle.tape.proofs.Places.{empty, too_many, passed_none, passed-more, passed-cut, passed-long, passed-short}
 use Rattle.tape.proofs.Places.{passed-all}
 use Rattle.tape.proofs.start_of.Goals as goal

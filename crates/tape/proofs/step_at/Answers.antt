@@ -1,5 +1,5 @@
 -- `step_at` meets its contract: the parts of the tape that it lends are the record's bytes and those handed with it.
-use Rattle.tape.proofs.Kit.{arith, rules}
+use Rattle.tape.proofs.Kit.{arith}
 use Rattle.monitor.specs.Stepped.{stepped as whole_step}
 use Rattle.history.specs.Run.{monitor_steps}
 use Rattle.tape.proofs.Handing.{handed-one, handed-none}
