@@ -1,4 +1,4 @@
-/* The manifest reader, for C on x86-64: link libmanifest.a. */
+/* The manifest reader, for C on x86-64 from its level v2 on: link libmanifest.a. */
 #ifndef MANIFEST_H
 #define MANIFEST_H
 

@@ -84,9 +84,8 @@ enum Count {
     Refused,
 }
 
-/// The packing tool's question: 0 for a good manifest, 3 for any other bytes.
-#[unsafe(no_mangle)]
-pub extern "C" fn manifest_check(bytes: &[u8]) -> u32
+/// The packing tool's question: 0 for a good manifest, 3 for any other bytes. The crate manifest_c exports it to C.
+pub fn manifest_check(bytes: &[u8]) -> u32
     ensures { result ≡ answer_of bytes.now }
 {
     match check(bytes) {
