@@ -2,10 +2,10 @@
 
 // Damages a valid device in one place at a time, asks whether the state is still valid, and writes a line for each.
 // Document 01, "A valid state": each clause, at its edge.
-use libc::STDOUT_FILENO;
 use manifest::{Component, Define, Resource};
 use rules::{Definition, Instance, Loan, Part};
 use state::{App, Apps, Definitions, Device, Instances, Parts, Resources};
+use std::io;
 
 // A device and the lent table.
 #[derive(Clone, Copy)]
@@ -42,202 +42,259 @@ const LISTED: [u8; 32] = [
     56, 57, 58, 59, 60, 61, 62, 63,
 ];
 
-fn main() {
-    told(b"the empty device", empty());
-    told(b"the fullest device", full());
+fn main(rt: HostRuntime) -> io::Result<()> {
+    told(&rt, "the empty device", empty())?;
+    told(&rt, "the fullest device", full())?;
     let w = sound();
-    told(b"the device that is damaged below", w);
-    damaged_apps(w);
-    damaged_uses(w);
-    damaged_grants(w);
-    damaged_groups(w);
-    damaged_definitions(w);
-    damaged_defines(w);
-    damaged_parts(w);
-    damaged_components(w);
-    damaged_activities(w);
-    damaged_resources(w);
-    damaged_instances(w);
-    damaged_running(w);
-    damaged_loans(w);
-    damaged_lending(w);
+    told(&rt, "the device that is damaged below", w)?;
+    damaged_apps(&rt, w)?;
+    damaged_uses(&rt, w)?;
+    damaged_grants(&rt, w)?;
+    damaged_groups(&rt, w)?;
+    damaged_definitions(&rt, w)?;
+    damaged_defines(&rt, w)?;
+    damaged_parts(&rt, w)?;
+    damaged_components(&rt, w)?;
+    damaged_activities(&rt, w)?;
+    damaged_resources(&rt, w)?;
+    damaged_instances(&rt, w)?;
+    damaged_running(&rt, w)?;
+    damaged_loans(&rt, w)?;
+    damaged_lending(&rt, w)
 }
 
 // Writes a name and the verdict.
-fn told(name: &[u8], w: World) {
-    io::write_all(STDOUT_FILENO, name);
+fn told(rt: &HostRuntime, name: &str, w: World) -> io::Result<()> {
     let lent = w.lent;
     if device::valid(w.device, lent) {
-        io::write_all(STDOUT_FILENO, b": valid\n");
+        println!(rt; "{name}: valid")
     } else {
-        io::write_all(STDOUT_FILENO, b": not valid\n");
+        println!(rt; "{name}: not valid")
     }
 }
 
 // ---- the damages, table by table
 
-fn damaged_apps(w: World) {
-    told(b"17 apps", set(w, COUNTS, 0, 0, 17));
-    told(b"an app number twice", set(w, APPS, 2, 0, 10));
-    told(b"an app number 0", set(w, APPS, 2, 0, 0));
-    told(b"a signer 0", set(w, APPS, 2, 1, 0));
-    told(b"a signer in an unused place", set(w, APPS, 15, 1, 1));
-    told(b"an image app in an unused place", set(w, APPS, 15, 2, 1));
-    told(b"a use in an unused place", set(w, APPS, 3, USES, 1));
-}
-
-fn damaged_uses(w: World) {
-    told(b"33 uses", set(w, APPS, 2, 3, 33));
-    told(b"a use 0", set(w, APPS, 2, USES, 0));
-    told(b"a use 64", set(w, APPS, 2, USES + 2, 64));
-    told(b"a use twice", set(w, APPS, 2, USES + 1, 1));
-    told(b"falling uses", set(w, APPS, 2, USES, 5));
-    told(b"a byte after the uses", set(w, APPS, 2, USES + 31, 1));
-}
-
-fn damaged_grants(w: World) {
-    told(b"33 grants", set(w, APPS, 0, 4, 33));
-    told(b"a grant twice", set(w, APPS, 0, GRANTS + 1, 3));
-    told(b"a grant not listed", set(w, APPS, 0, GRANTS + 1, 4));
+fn damaged_apps(rt: &HostRuntime, w: World) -> io::Result<()> {
+    told(rt, "17 apps", set(w, COUNTS, 0, 0, 17))?;
+    told(rt, "an app number twice", set(w, APPS, 2, 0, 10))?;
+    told(rt, "an app number 0", set(w, APPS, 2, 0, 0))?;
+    told(rt, "a signer 0", set(w, APPS, 2, 1, 0))?;
+    told(rt, "a signer in an unused place", set(w, APPS, 15, 1, 1))?;
     told(
-        b"a grant of a normal permission",
+        rt,
+        "an image app in an unused place",
+        set(w, APPS, 15, 2, 1),
+    )?;
+    told(rt, "a use in an unused place", set(w, APPS, 3, USES, 1))
+}
+
+fn damaged_uses(rt: &HostRuntime, w: World) -> io::Result<()> {
+    told(rt, "33 uses", set(w, APPS, 2, 3, 33))?;
+    told(rt, "a use 0", set(w, APPS, 2, USES, 0))?;
+    told(rt, "a use 64", set(w, APPS, 2, USES + 2, 64))?;
+    told(rt, "a use twice", set(w, APPS, 2, USES + 1, 1))?;
+    told(rt, "falling uses", set(w, APPS, 2, USES, 5))?;
+    told(rt, "a byte after the uses", set(w, APPS, 2, USES + 31, 1))
+}
+
+fn damaged_grants(rt: &HostRuntime, w: World) -> io::Result<()> {
+    told(rt, "33 grants", set(w, APPS, 0, 4, 33))?;
+    told(rt, "a grant twice", set(w, APPS, 0, GRANTS + 1, 3))?;
+    told(rt, "a grant not listed", set(w, APPS, 0, GRANTS + 1, 4))?;
+    told(
+        rt,
+        "a grant of a normal permission",
         set(w, APPS, 0, GRANTS + 1, 17),
-    );
+    )?;
     told(
-        b"a grant of a permission that is not defined",
+        rt,
+        "a grant of a permission that is not defined",
         set(w, APPS, 0, GRANTS + 1, 40),
-    );
-    told(b"a byte after the grants", set(w, APPS, 0, GRANTS + 31, 1));
-}
-
-fn damaged_groups(w: World) {
-    told(b"16 groups", set(w, APPS, 0, 5, 16));
-    told(b"a group 0", set(w, APPS, 0, GROUPS, 0));
-    told(b"a group 16", set(w, APPS, 0, GROUPS, 16));
-    told(b"a group twice", set(w, APPS, 0, GROUPS, 2));
-    told(b"a byte after the groups", set(w, APPS, 0, GROUPS + 14, 1));
-}
-
-fn damaged_definitions(w: World) {
-    told(b"257 definitions", set(w, COUNTS, 0, 1, 257));
+    )?;
     told(
-        b"a definition in an unused place",
+        rt,
+        "a byte after the grants",
+        set(w, APPS, 0, GRANTS + 31, 1),
+    )
+}
+
+fn damaged_groups(rt: &HostRuntime, w: World) -> io::Result<()> {
+    told(rt, "16 groups", set(w, APPS, 0, 5, 16))?;
+    told(rt, "a group 0", set(w, APPS, 0, GROUPS, 0))?;
+    told(rt, "a group 16", set(w, APPS, 0, GROUPS, 16))?;
+    told(rt, "a group twice", set(w, APPS, 0, GROUPS, 2))?;
+    told(
+        rt,
+        "a byte after the groups",
+        set(w, APPS, 0, GROUPS + 14, 1),
+    )
+}
+
+fn damaged_definitions(rt: &HostRuntime, w: World) -> io::Result<()> {
+    told(rt, "257 definitions", set(w, COUNTS, 0, 1, 257))?;
+    told(
+        rt,
+        "a definition in an unused place",
         set(w, DEFINITIONS, 255, 3, 1),
-    );
-    told(b"a definition by no app", set(w, DEFINITIONS, 2, 0, 99));
-    told(b"a permission defined twice", set(w, DEFINITIONS, 2, 1, 16));
-    told(b"a permission 15", set(w, DEFINITIONS, 2, 1, 15));
-    told(b"a permission 64", set(w, DEFINITIONS, 2, 1, 64));
+    )?;
+    told(rt, "a definition by no app", set(w, DEFINITIONS, 2, 0, 99))?;
+    told(
+        rt,
+        "a permission defined twice",
+        set(w, DEFINITIONS, 2, 1, 16),
+    )?;
+    told(rt, "a permission 15", set(w, DEFINITIONS, 2, 1, 15))?;
+    told(rt, "a permission 64", set(w, DEFINITIONS, 2, 1, 64))
 }
 
-fn damaged_defines(w: World) {
-    told(b"a level 4", set(w, DEFINITIONS, 0, 2, 4));
-    told(b"a group 16 of a permission", set(w, DEFINITIONS, 0, 3, 16));
+fn damaged_defines(rt: &HostRuntime, w: World) -> io::Result<()> {
+    told(rt, "a level 4", set(w, DEFINITIONS, 0, 2, 4))?;
     told(
-        b"a group of a normal permission",
+        rt,
+        "a group 16 of a permission",
+        set(w, DEFINITIONS, 0, 3, 16),
+    )?;
+    told(
+        rt,
+        "a group of a normal permission",
         set(w, DEFINITIONS, 2, 3, 1),
-    );
-    told(b"falling definitions", set(w, DEFINITIONS, 0, 1, 19));
-    told(b"17 definitions by an app", seventeen_definitions(w));
+    )?;
+    told(rt, "falling definitions", set(w, DEFINITIONS, 0, 1, 19))?;
+    told(rt, "17 definitions by an app", seventeen_definitions(w))
 }
 
-fn damaged_parts(w: World) {
-    told(b"65 components", set(w, COUNTS, 0, 2, 65));
-    told(b"a component in an unused place", set(w, PARTS, 63, 7, 1));
-    told(b"a component number twice", set(w, PARTS, 3, 1, 101));
-    told(b"a component number 0", set(w, PARTS, 0, 1, 0));
-    told(b"a component of no app", set(w, PARTS, 3, 0, 99));
-    told(b"falling components", set(w, PARTS, 0, 1, 103));
-    told(b"17 components of an app", seventeen_components(w));
-}
-
-fn damaged_components(w: World) {
-    told(b"a kind 0", set(w, PARTS, 0, 2, 0));
-    told(b"a kind 5", set(w, PARTS, 0, 2, 5));
-    told(b"exported 2", set(w, PARTS, 0, 3, 2));
-    told(b"shares 2", set(w, PARTS, 1, 4, 2));
-    told(b"a start permission 64", set(w, PARTS, 0, 5, 64));
+fn damaged_parts(rt: &HostRuntime, w: World) -> io::Result<()> {
+    told(rt, "65 components", set(w, COUNTS, 0, 2, 65))?;
     told(
-        b"a provider with a start permission",
+        rt,
+        "a component in an unused place",
+        set(w, PARTS, 63, 7, 1),
+    )?;
+    told(rt, "a component number twice", set(w, PARTS, 3, 1, 101))?;
+    told(rt, "a component number 0", set(w, PARTS, 0, 1, 0))?;
+    told(rt, "a component of no app", set(w, PARTS, 3, 0, 99))?;
+    told(rt, "falling components", set(w, PARTS, 0, 1, 103))?;
+    told(rt, "17 components of an app", seventeen_components(w))
+}
+
+fn damaged_components(rt: &HostRuntime, w: World) -> io::Result<()> {
+    told(rt, "a kind 0", set(w, PARTS, 0, 2, 0))?;
+    told(rt, "a kind 5", set(w, PARTS, 0, 2, 5))?;
+    told(rt, "exported 2", set(w, PARTS, 0, 3, 2))?;
+    told(rt, "shares 2", set(w, PARTS, 1, 4, 2))?;
+    told(rt, "a start permission 64", set(w, PARTS, 0, 5, 64))?;
+    told(
+        rt,
+        "a provider with a start permission",
         set(w, PARTS, 1, 5, 3),
-    );
+    )
 }
 
-fn damaged_activities(w: World) {
-    told(b"an activity that shares", set(w, PARTS, 0, 4, 1));
+fn damaged_activities(rt: &HostRuntime, w: World) -> io::Result<()> {
+    told(rt, "an activity that shares", set(w, PARTS, 0, 4, 1))?;
     told(
-        b"an activity with a read permission",
+        rt,
+        "an activity with a read permission",
         set(w, PARTS, 0, 6, 3),
-    );
+    )?;
     told(
-        b"an activity with a write permission",
+        rt,
+        "an activity with a write permission",
         set(w, PARTS, 0, 7, 3),
-    );
+    )
 }
 
-fn damaged_resources(w: World) {
-    told(b"129 resources", set(w, COUNTS, 0, 3, 129));
-    told(b"a value in an unused place", set(w, RESOURCES, 127, 2, 1));
-    told(b"a resource twice", set(w, RESOURCES, 1, 1, 1));
-    told(b"a resource of no component", set(w, RESOURCES, 2, 0, 99));
-    told(b"a resource of an activity", set(w, RESOURCES, 2, 0, 100));
-    told(b"a uri 0", set(w, RESOURCES, 0, 1, 0));
-    told(b"falling resources", set(w, RESOURCES, 0, 1, 3));
-    told(b"33 resources of an app", many_resources(w));
-}
-
-fn damaged_instances(w: World) {
-    told(b"65 instances", set(w, COUNTS, 0, 4, 65));
+fn damaged_resources(rt: &HostRuntime, w: World) -> io::Result<()> {
+    told(rt, "129 resources", set(w, COUNTS, 0, 3, 129))?;
     told(
-        b"an instance in an unused place",
+        rt,
+        "a value in an unused place",
+        set(w, RESOURCES, 127, 2, 1),
+    )?;
+    told(rt, "a resource twice", set(w, RESOURCES, 1, 1, 1))?;
+    told(
+        rt,
+        "a resource of no component",
+        set(w, RESOURCES, 2, 0, 99),
+    )?;
+    told(
+        rt,
+        "a resource of an activity",
+        set(w, RESOURCES, 2, 0, 100),
+    )?;
+    told(rt, "a uri 0", set(w, RESOURCES, 0, 1, 0))?;
+    told(rt, "falling resources", set(w, RESOURCES, 0, 1, 3))?;
+    told(rt, "33 resources of an app", many_resources(w))
+}
+
+fn damaged_instances(rt: &HostRuntime, w: World) -> io::Result<()> {
+    told(rt, "65 instances", set(w, COUNTS, 0, 4, 65))?;
+    told(
+        rt,
+        "an instance in an unused place",
         set(w, INSTANCES, 63, 1, 1),
-    );
+    )?;
     told(
-        b"an instance 0",
+        rt,
+        "an instance 0",
         set(set(w, INSTANCES, 2, 0, 0), COUNTS, 0, 6, 3),
-    );
+    )?;
     told(
-        b"an instance 65",
+        rt,
+        "an instance 65",
         set(set(w, INSTANCES, 2, 0, 65), COUNTS, 0, 6, 3),
-    );
+    )?;
     told(
-        b"an instance twice",
+        rt,
+        "an instance twice",
         set(set(w, INSTANCES, 2, 0, 2), COUNTS, 0, 6, 3),
-    );
-    told(b"an instance of a provider", set(w, INSTANCES, 2, 1, 101));
-    told(b"an instance of no component", set(w, INSTANCES, 2, 1, 99));
-}
-
-fn damaged_running(w: World) {
-    told(b"a running number too many", set(w, COUNTS, 0, 6, 15));
-    told(b"a running number too few", set(w, COUNTS, 0, 6, 3));
-    told(b"no running number", set(w, COUNTS, 0, 6, 0));
-}
-
-fn damaged_loans(w: World) {
-    told(b"129 loans", set(w, COUNTS, 0, 5, 129));
-    told(b"a loan in an unused place", set(w, LOANS, 127, 3, 1));
-    told(b"operations 0", set(w, LOANS, 0, 4, 0));
-    told(b"operations 4", set(w, LOANS, 0, 4, 4));
-    told(b"a receiver kind 0", set(w, LOANS, 0, 0, 0));
-    told(b"a receiver kind 3", set(w, LOANS, 0, 0, 3));
-}
-
-fn damaged_lending(w: World) {
+    )?;
     told(
-        b"a loan to an instance that does not run",
+        rt,
+        "an instance of a provider",
+        set(w, INSTANCES, 2, 1, 101),
+    )?;
+    told(
+        rt,
+        "an instance of no component",
+        set(w, INSTANCES, 2, 1, 99),
+    )
+}
+
+fn damaged_running(rt: &HostRuntime, w: World) -> io::Result<()> {
+    told(rt, "a running number too many", set(w, COUNTS, 0, 6, 15))?;
+    told(rt, "a running number too few", set(w, COUNTS, 0, 6, 3))?;
+    told(rt, "no running number", set(w, COUNTS, 0, 6, 0))
+}
+
+fn damaged_loans(rt: &HostRuntime, w: World) -> io::Result<()> {
+    told(rt, "129 loans", set(w, COUNTS, 0, 5, 129))?;
+    told(rt, "a loan in an unused place", set(w, LOANS, 127, 3, 1))?;
+    told(rt, "operations 0", set(w, LOANS, 0, 4, 0))?;
+    told(rt, "operations 4", set(w, LOANS, 0, 4, 4))?;
+    told(rt, "a receiver kind 0", set(w, LOANS, 0, 0, 0))?;
+    told(rt, "a receiver kind 3", set(w, LOANS, 0, 0, 3))
+}
+
+fn damaged_lending(rt: &HostRuntime, w: World) -> io::Result<()> {
+    told(
+        rt,
+        "a loan to an instance that does not run",
         set(w, LOANS, 0, 1, 4),
-    );
-    told(b"a loan to no app", set(w, LOANS, 1, 1, 99));
-    told(b"a loan on no resource", set(w, LOANS, 0, 3, 9));
+    )?;
+    told(rt, "a loan to no app", set(w, LOANS, 1, 1, 99))?;
+    told(rt, "a loan on no resource", set(w, LOANS, 0, 3, 9))?;
     told(
-        b"a loan of a provider that does not share",
+        rt,
+        "a loan of a provider that does not share",
         set(w, LOANS, 0, 2, 102),
-    );
+    )?;
     told(
-        b"a loan twice",
+        rt,
+        "a loan twice",
         set(set(set(w, LOANS, 1, 0, 1), LOANS, 1, 1, 2), LOANS, 1, 3, 1),
-    );
+    )
 }
 
 // An app with an entry more than a manifest may have, each good by itself and the keys rising.
@@ -245,8 +302,7 @@ fn seventeen_definitions(w: World) -> World {
     let mut d = w.device;
     let lent = w.lent;
     let mut t = no_definitions();
-    let mut i: u16 = 0;
-    while i < 17 {
+    for i in 0..17u16 {
         let k = i as usize;
         t.entries[k] = Definition {
             app: 10,
@@ -256,7 +312,6 @@ fn seventeen_definitions(w: World) -> World {
                 group: 0,
             },
         };
-        i += 1;
     }
     t.count = 17;
     d.definitions = t;
@@ -267,14 +322,12 @@ fn seventeen_components(w: World) -> World {
     let mut d = w.device;
     let lent = w.lent;
     let mut t = d.parts;
-    let mut i: u16 = 0;
-    while i < 14 {
+    for i in 0..14u16 {
         let k = (5 + i) as usize;
         t.entries[k] = Part {
             app: 10,
             component: activity(103 + i),
         };
-        i += 1;
     }
     t.count = 19;
     d.parts = t;
@@ -285,15 +338,13 @@ fn many_resources(w: World) -> World {
     let mut d = w.device;
     let lent = w.lent;
     let mut t = d.resources;
-    let mut i: u16 = 0;
-    while i < 30 {
+    for i in 0..30u16 {
         let k = (3 + i) as usize;
         t.entries[k] = Resource {
             provider: 102,
             uri: 2 + i,
             value: 0,
         };
-        i += 1;
     }
     t.count = 33;
     d.resources = t;
@@ -918,11 +969,9 @@ fn full() -> World {
 
 fn full_apps() -> Apps {
     let mut t = no_apps();
-    let mut i: u16 = 0;
-    while i < 16 {
+    for i in 0..16u16 {
         let k = i as usize;
         t.entries[k] = full_app(1 + i);
-        i += 1;
     }
     t.count = 16;
     t
@@ -946,8 +995,7 @@ fn full_app(number: u16) -> App {
 // Three permissions by each app, all dangerous: with 16 to 63 there are no more.
 fn full_definitions() -> Definitions {
     let mut t = no_definitions();
-    let mut i: u16 = 0;
-    while i < 48 {
+    for i in 0..48u16 {
         let k = i as usize;
         t.entries[k] = Definition {
             app: 1 + i / 3,
@@ -957,7 +1005,6 @@ fn full_definitions() -> Definitions {
                 group: 1,
             },
         };
-        i += 1;
     }
     t.count = 48;
     t
@@ -966,15 +1013,13 @@ fn full_definitions() -> Definitions {
 // Two activities and two providers of each app.
 fn full_parts() -> Parts {
     let mut t = no_parts();
-    let mut i: u16 = 0;
-    while i < 64 {
+    for i in 0..64u16 {
         let k = i as usize;
         let component = full_component(1 + i, i % 4);
         t.entries[k] = Part {
             app: 1 + i / 4,
             component,
         };
-        i += 1;
     }
     t.count = 64;
     t
@@ -990,15 +1035,13 @@ fn full_component(number: u16, place: u16) -> Component {
 // Four resources of each provider.
 fn full_resources() -> Resources {
     let mut t = no_resources();
-    let mut i: u16 = 0;
-    while i < 128 {
+    for i in 0..128u16 {
         let k = i as usize;
         t.entries[k] = Resource {
             provider: provider_of(i),
             uri: 1 + i % 4,
             value: 1,
         };
-        i += 1;
     }
     t.count = 128;
     t
@@ -1011,14 +1054,12 @@ fn provider_of(place: u16) -> u16 {
 
 fn full_instances() -> Instances {
     let mut t = no_instances();
-    let mut i: u16 = 0;
-    while i < 64 {
+    for i in 0..64u16 {
         let k = i as usize;
         t.entries[k] = Instance {
             number: low(1 + i),
             component: (i / 4) * 4 + 1 + i % 2,
         };
-        i += 1;
     }
     t.count = 64;
     t.running = u64::MAX;
@@ -1027,8 +1068,7 @@ fn full_instances() -> Instances {
 
 fn full_loans() -> [Loan; 128] {
     let mut t = no_loans();
-    let mut i: u16 = 0;
-    while i < 128 {
+    for i in 0..128u16 {
         let k = i as usize;
         t[k] = Loan {
             kind: 1,
@@ -1037,7 +1077,6 @@ fn full_loans() -> [Loan; 128] {
             uri: 1 + i % 4,
             operations: 3,
         };
-        i += 1;
     }
     t
 }

@@ -1,22 +1,27 @@
 //! Reads a tape from standard input and writes its answer sheet to standard output.
 #![tactic(auto)]
 
-use libc::{STDERR_FILENO, STDIN_FILENO, STDOUT_FILENO};
+use reading::read_full;
+use std::io;
 use tape::Wrote;
 
 // The buffers hold 65,536 bytes. The longest tape has 57,411, so input that does not end in the buffer is refused; and
 // no sheet has more than 49,250, so there is always room.
-fn main() {
-    let mut bytes = io::large_buffer();
-    let read = io::read_full(STDIN_FILENO, &mut bytes);
-    let mut out = io::large_buffer();
+fn main(rt: HostRuntime) -> io::Result<()> {
+    let mut bytes = [0u8; 65536];
+    let read = read_full(&mut rt.stdin(), &mut bytes)?;
+    let mut out = [0u8; 65536];
     match tape::sheet_of(&bytes[..read], &mut out) {
-        Wrote::Bytes(n) => {
-            let whole = io::write_all(STDOUT_FILENO, &out[..n]);
-            if !whole {
-                io::write_all(STDERR_FILENO, b"sheet not written\n");
-            }
-        }
-        Wrote::TooShort => {}
+        Wrote::Bytes(n) => written(&rt, &out[..n]),
+        Wrote::TooShort => Ok(()),
     }
+}
+
+// A sheet that was not written whole is said on standard error.
+fn written(rt: &HostRuntime, sheet: &[u8]) -> io::Result<()> {
+    let result = rt.write_all(sheet);
+    if result.is_err() {
+        let _ = rt.eprintln("sheet not written");
+    }
+    result
 }

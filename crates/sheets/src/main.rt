@@ -2,47 +2,47 @@
 //! followed by a line with a single `.`. For comparisons of many tapes in one run.
 #![tactic(auto)]
 
-ghost use Rattle.std.specs.Prelude.{◌+◌, ◌*◌, ◌≤◌, ◌<◌, length};
-ghost use Rattle.io.specs.Counts.{IsPrefixLen};
+ghost use Rattle.std.specs.Prelude.{◌+◌, ◌*◌, ◌≤◌, ◌<◌, length, IfOk, IfSome};
 
-use libc::{STDERR_FILENO, STDIN_FILENO, STDOUT_FILENO};
+use reading::read_full;
+use std::io;
+use std::io::Read;
 use tape::Wrote;
 
-/// What was read: a tape of so many bytes at the front of the buffer, or the end of the stream.
-#[derive(Clone, Copy)]
-struct Read {
-    more: bool,
-    length: usize,
-}
-
-fn main() {
-    let mut bytes = io::large_buffer();
-    let mut out = io::large_buffer();
-    let whole = sheets(&mut bytes, &mut out);
-    if !whole {
-        io::write_all(STDERR_FILENO, b"sheets not written\n");
-    }
+fn main(rt: HostRuntime) -> io::Result<()> {
+    let mut bytes = [0u8; 65536];
+    let mut out = [0u8; 65536];
+    sheets(&rt, &mut bytes, &mut out)
 }
 
 // Sheets are gathered in the buffer and written when there may be no room for another. A proved loop has to end, so
-// this one counts its turns down from a number that no run uses up.
-fn sheets(bytes: &mut [u8], out: &mut [u8]) -> bool {
+// this one has a number of turns that no run uses up.
+fn sheets(rt: &HostRuntime, bytes: &mut [u8], out: &mut [u8]) -> io::Result<()> {
     let mut at = 0;
-    let mut turns = u64::MAX;
-    while turns > 0 {
-        let read = next_tape(bytes);
-        if !read.more {
-            return io::write_all(STDOUT_FILENO, &out[..at]);
+    for _ in 0..u64::MAX {
+        match next_tape(rt, bytes) {
+            Ok(Some(n)) => {
+                let due = due_at(at, out.len());
+                written(rt, &out[..due])?;
+                at = put_sheet(&bytes[..n], out, at - due);
+            }
+            Ok(None) => break,
+            Err(e) => {
+                written(rt, &out[..at])?;
+                return Err(e);
+            }
         }
-        let n = read.length;
-        let due = due_at(at, out.len());
-        if !io::write_all(STDOUT_FILENO, &out[..due]) {
-            return false;
-        }
-        at = put_sheet(&bytes[..n], out, at - due);
-        turns -= 1;
     }
-    false
+    written(rt, &out[..at])
+}
+
+// Sheets that were not written whole are said on standard error.
+fn written(rt: &HostRuntime, sheets: &[u8]) -> io::Result<()> {
+    let result = rt.write_all(sheets);
+    if result.is_err() {
+        let _ = rt.eprintln("sheets not written");
+    }
+    result
 }
 
 // How many bytes have to be written now: all of them where a sheet and its last line may not fit after them.
@@ -58,38 +58,34 @@ fn put_sheet(tape: &[u8], out: &mut [u8], at: usize) -> usize
     requires { at ≤ length out.old }
     ensures { result ≤ length out.new }
 {
-    let wrote = tape::sheet_of(tape, &mut out[at..]);
-    match wrote {
+    let room = out.len() - at;
+    match tape::sheet_of(tape, &mut out[at..]) {
         Wrote::Bytes(n) => {
-            let end = at + n;
-            if out.len() - end < 2 {
+            if room - n < 2 {
                 return at;
             }
-            out[end] = b'.';
-            out[end + 1] = b'\n';
-            end + 2
+            out[at + n] = b'.';
+            out[at + n + 1] = b'\n';
+            at + n + 2
         }
         Wrote::TooShort => at,
     }
 }
 
-// A tape that is longer than the buffer is longer than every tape: its front is refused, and the rest is passed over.
-fn next_tape(bytes: &mut [u8]) -> Read
-    ensures { IsPrefixLen result.length bytes.new }
+// The next tape is read to the front of the buffer. The answer is its length, or that the stream has ended. A tape that
+// is longer than the buffer is longer than every tape: its front is refused, and the rest is passed over.
+fn next_tape(rt: &HostRuntime, bytes: &mut [u8]) -> io::Result<Option<usize>>
+    ensures { IfOk result (λ read. IfSome read (λ n. n ≤ length bytes.new)) }
 {
     let mut head = [0u8; 4];
-    let got = io::read_full(STDIN_FILENO, &mut head);
-    if got < 4 {
-        return Read {
-            more: false,
-            length: 0,
-        };
+    if read_full(&mut rt.stdin(), &mut head)? < 4 {
+        return Ok(None);
     }
     let n = length_of(&head);
-    let m = least(n, bytes.len());
-    let length = io::read_full(STDIN_FILENO, &mut bytes[..m]);
-    pass_over(n - m);
-    Read { more: true, length }
+    let m = n.min(bytes.len());
+    let read = read_full(&mut rt.stdin(), &mut bytes[..m])?;
+    io::copy(&mut rt.stdin().take((n - m) as u64), &mut io::sink())?;
+    Ok(Some(read))
 }
 
 fn length_of(head: &[u8; 4]) -> usize
@@ -102,30 +98,4 @@ fn wide(x: u8) -> usize
     ensures { result < 256 }
 {
     x as usize
-}
-
-fn least(a: usize, b: usize) -> usize
-    ensures { (result ≤ a) × (result ≤ b) }
-{
-    if a < b { a } else { b }
-}
-
-fn pass_over(n: usize) {
-    let mut left = n;
-    while left > 0 {
-        let got = pass_some(left);
-        if got == 0 {
-            return;
-        }
-        left -= got;
-    }
-}
-
-// Reads at most n bytes that nobody looks at. Kept out of the loop, it is proved with no file.
-fn pass_some(n: usize) -> usize
-    ensures { result ≤ n }
-{
-    let mut chunk = io::buffer();
-    let m = least(n, 4096);
-    io::read_full(STDIN_FILENO, &mut chunk[..m])
 }
