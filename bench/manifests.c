@@ -1,5 +1,5 @@
 /* How long the proved reader takes for a manifest, as a ratio to the same check in plain C. Both run in turn in one
- * program, so that the machine and its emulator weigh on both alike; of many rounds the shortest counts. */
+ * program, so that the machine weighs on both alike; of many rounds the shortest counts. */
 #include <stdio.h>
 #include <time.h>
 
