@@ -57,9 +57,18 @@ fn answer_next(rt: &HostRuntime, bytes: &mut [u8]) -> io::Result<Next>
 {
     let mut head = [0u8; 2];
     match read_full(&mut rt.stdin(), &mut head)? {
-        0 => Ok(Next::End),
+        0 => nothing_came(rt),
         1 => Ok(Next::Cut),
         _ => answer_manifest(rt, &mut bytes[..length_of(head[0], head[1])]),
+    }
+}
+
+// An input that has ended gives nothing when it is asked again. One that gives more then had come to an end in between.
+fn nothing_came(rt: &HostRuntime) -> io::Result<Next> {
+    let mut more = [0u8; 1];
+    match read_full(&mut rt.stdin(), &mut more)? {
+        0 => Ok(Next::End),
+        _ => Ok(Next::Cut),
     }
 }
 
