@@ -6,7 +6,6 @@ pub use mathlib.Core.Bool.{Bool, true, false, not, ◌&&◌}
 pub use mathlib.Core.List.{[]}
 pub use mathlib.Core.Option.{Option}
 pub use native.Mathlib.Omega.{arith}
-pub use borrow.Author.Rules.{rules}
 pub use borrow.Author.Tests.{eq-eqb, ne_eqb}
 pub use lib.ListN.{take, get_or}
 pub use lib.Dec.{eqb, ltb, leb}

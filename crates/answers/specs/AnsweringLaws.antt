@@ -68,7 +68,8 @@ module _ {A : Type 0} where
   here-if-any g f l = found-if-any f l ∙ some-map g (find f l)
 
 -- an app of the code against a row of the rules
-app-search : (l : List App) (n : ℕ) → app_at (apps_of (map row_of l)) n ≡ map_option (λ a. (row_of a).app) (find (is_app n) l)
+app-search : (l : List App) (n : ℕ) → app_at (apps_of (map row_of l)) n
+    ≡ map_option (λ a. (row_of a).app) (find (is_app n) l)
 unfolding app_at
 app-search l n = rw (map-map (λ r. r.app) row_of l) (find-map (λ a. eqb a.number n) (λ a. (row_of a).app) l)
 

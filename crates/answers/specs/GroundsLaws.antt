@@ -1,5 +1,6 @@
 -- What stands in the way of an operation and what it rests on, against the refusals of the actions that need a ground.
-use Rattle.std.specs.Prelude.{ℕ, suc, ◌≤◌, Bool, true, false, not, ◌||◌, cond, List, [], ◌∷◌, map, leb, length, take, get_or}
+use Rattle.std.specs.Prelude.{ℕ, suc, ◌≤◌, Bool, true, false, not, ◌||◌, cond, List, [], ◌∷◌, map, leb, length, take}
+use Rattle.std.specs.Prelude.{get_or}
 use Rattle.std.proofs.Math.Path.{◌≡◌, refl, sym, ap}
 use Rattle.std.proofs.Common.{◌∙◌, length-take, arith, leb-true, leb-false, le-leb}
 use Rattle.std.proofs.Math.Option.{Option, none, some}

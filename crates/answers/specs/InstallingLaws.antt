@@ -1,9 +1,11 @@
 -- What the verdict on a manifest's bytes tells: they are no good manifest, or its sections stand where it says.
-use Rattle.std.specs.Prelude.{ℕ, ◌+◌, ◌*◌, ◌≤◌, min, ◌≡◌, refl, Bool, true, false, not, ◌||◌, cond, List, length, take, eqb, leb, ltb}
+use Rattle.std.specs.Prelude.{ℕ, ◌+◌, ◌*◌, ◌≤◌, min, ◌≡◌, refl, Bool, true, false, not, ◌||◌, cond, List, length, take}
+use Rattle.std.specs.Prelude.{eqb, leb, ltb}
 use Rattle.std.proofs.Common.{sym, ap, ◌∙◌, length-take, arith, eqb-true, le-leb}
 use Rattle.manifest.specs.declared.Sections.{Sections}
 use Rattle.manifest.specs.declared.Verdict.TheVariants.{Good, Malformed}
-use Rattle.manifest.specs.Layout.{laid_out, manifest_of, u8_at, entries, define_at, component_at, resource_at, defines_place}
+use Rattle.manifest.specs.Layout.{laid_out, manifest_of, u8_at, entries, define_at, component_at, resource_at}
+use Rattle.manifest.specs.Layout.{defines_place}
 use Rattle.manifest.specs.Layout.{components_place, resources_place, end_place}
 use Rattle.manifest.specs.LayoutLaws.{length-entries}
 use Rattle.manifest.specs.Good.{good, good_bytes}
@@ -36,7 +38,8 @@ whole-if s l = rw l
 pub read-good : (s : List ℕ) (m : Sections) → verdict_of s ≡ Good m → Read s m
 read-good s m e =
     let g = go (good_bytes s) e in
-    let l : eqb (end_place s) (length s) ≡ true = (and_parts (eqb (end_place s) (length s)) (good (laid_out s)) g.0).0 in
+    let l : eqb (end_place s) (length s) ≡ true =
+    (and_parts (eqb (end_place s) (length s)) (good (laid_out s)) g.0).0 in
     record {
       fine = ap not (good-manifest_of s ∙ g.0);
       sections = sym g.1;

@@ -19,7 +19,8 @@ use Rattle.tables.specs.RunningLaws.{next-is-free}
 use Rattle.answers.specs.Answering.{view_in, answer_in}
 use Rattle.answers.specs.Starting.{start_with, free_of}
 
-pub start-with : (L : Limits) (v : View) (c n : ℕ) → start_with (free_number L v) v c n ≡ answer L v (on_runs (start c n))
+pub start-with : (L : Limits) (v : View) (c n : ℕ) → start_with (free_number L v) v c n
+    ≡ answer L v (on_runs (start c n))
 unfolding start_with answer refusals ground_for value_for
 start-with L v c n = refl
 

@@ -11,8 +11,10 @@ ghost use Rattle.rules.specs.Action.{grant, revoke, grant_group, revoke_group, s
 ghost use Rattle.rules.specs.Action.{is_operations, reading, writing};
 ghost use Rattle.rules.specs.Action.{install, uninstall, lend, withdraw, on_apps, on_grants, on_runs, on_loans, query};
 ghost use Rattle.rules.specs.Permissions.{known, holds, dangerous};
-ghost use Rattle.rules.specs.Grounds.{startable, is_ground, is_sharing, ground, running_app, provider, right_of, ground_of};
-ghost use Rattle.rules.specs.Refusals.{clash, barred, app_may_start, grantable, is_group, groupable, is_running, lacking};
+ghost use Rattle.rules.specs.Grounds.{startable, is_ground, is_sharing, ground, running_app, provider, right_of};
+ghost use Rattle.rules.specs.Grounds.{ground_of};
+ghost use Rattle.rules.specs.Refusals.{clash, barred, app_may_start, grantable, is_group, groupable, is_running};
+ghost use Rattle.rules.specs.Refusals.{lacking};
 ghost use Rattle.rules.specs.Refusals.{no_receiving_app, no_receiving_instance};
 ghost use Rattle.rules.specs.Limits.{large};
 ghost use Rattle.state.specs.Stored.{row_of};

@@ -6,10 +6,10 @@ pub use mathlib.Core.Bool.{Bool, true, false, not, ◌&&◌}
 pub use mathlib.Core.List.{List, [], map}
 pub use mathlib.Core.Option.{Option}
 pub use native.Mathlib.Omega.{arith}
-pub use borrow.Author.Rules.{rules}
-pub use borrow.Author.Tests.{eq-eqb, ne_eqb, le-leb, lt-ltb, le-ltb, ltb-true, not-true, not-false}
+use borrow.Author.Tests.{not-true, not-false}
+pub use borrow.Author.Tests.{eq-eqb, ne_eqb, le-leb, lt-ltb, le-ltb, ltb-true}
 pub use Rattle.rules.specs.ListsLaws.{and_left, and_right}
-pub use lib.ListN.{length, length-map, take, get_or}
+pub use lib.ListN.{length, take, get_or}
 pub use lib.Seq.{slice}
 pub use lib.Dec.{eqb, leb, ltb}
 pub use Rattle.rules.specs.Lists.{any}

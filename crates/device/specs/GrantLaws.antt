@@ -60,6 +60,7 @@ module _ (rs : List Row) (ds : List Definition) (a : App) (low : all good_use a.
 
 -- the grants of an app whose manifest is good
 pub same-grants : (rs : List Row) (ds : List Definition) (ks : List Part) (us : List Resource) (a : App) (l : List ℕ)
-    → good (manifest_in ds ks us a) ≡ true → all (good_grant_by (dangerous_in rs ds) a) l ≡ all (good_grant_in rs ds a) l
+    → good (manifest_in ds ks us a) ≡ true → all (good_grant_by (dangerous_in rs ds) a) l
+    ≡ all (good_grant_in rs ds a) l
 same-grants rs ds ks us a l g = all_same rs ds a (all-rising (λ p. p) good_use 0 a.uses
     (and_right (at_most 32 a.uses) (uses_rise 0 a.uses) (good-parts (manifest_in ds ks us a) g).uses)) l

@@ -1,7 +1,8 @@
 -- Loops of the validity test over the places from i up to b of an array: for each kind of loop one record as the
 -- invariant and one law for each place of the loop.
 use Prim.Native.Nat.{ℕ, zero, suc, ◌+◌, ◌-◌, ◌*◌, ◌/◌, ◌%◌, ◌^◌, ◌≤◌, ◌<◌}
-use Rattle.std.specs.Prelude.{◌≡◌, refl, Bool, true, false, ◌&&◌, List, [], ◌∷◌, map, length, take, get_or, eqb, leb, ltb}
+use Rattle.std.specs.Prelude.{◌≡◌, refl, Bool, true, false, ◌&&◌, List, [], ◌∷◌, map, length, take, get_or, eqb, leb}
+use Rattle.std.specs.Prelude.{ltb}
 use Rattle.std.proofs.Math.Path.{sym}
 use Rattle.std.proofs.Common.{ap, ◌∙◌, true≢false, drop_of_length-le, take_all, length-take-le}
 use Rattle.std.proofs.lemmas.Bool.{false≢true}
@@ -27,7 +28,8 @@ module _ {A : Type 0} (l : List A) (b : ℕ) where
 
 -- ---- all is zero from a count on, in an array of n places
 module _ {A : Type 0} (is_empty : A → Bool) (n : ℕ) (l : List A) (long : length l ≡ n) (count : ℕ) where
-  pub pads-within : count ≤ n → {whole : Bool} → whole ≡ all is_empty (slice count n l) → whole ≡ pads is_empty n l count
+  pub pads-within : count ≤ n → {whole : Bool} → whole ≡ all is_empty (slice count n l) → whole
+      ≡ pads is_empty n l count
   pads-within h e = e ∙ rw (le-leb count n h, take_all n l (omega arith))
 
   pub pads-past : n < count → false ≡ pads is_empty n l count
@@ -119,7 +121,8 @@ module _ {A B : Type 0} {f : A → Bool} {g : A → B} {key : B → ℕ} {ok : B
       n = length (map g (keep f (slice (i + 1) b l)))
 
       go : (left : ℕ) (t : Bool) → ltb 0 left && t ≡ false
-          → leb (suc n) left && (t && rising key ok (key (g (get_or l i d))) (map g (keep f (slice (i + 1) b l)))) ≡ false
+          → leb (suc n) left && (t && rising key ok (key (g (get_or l i d))) (map g (keep f (slice (i + 1) b l))))
+          ≡ false
       go zero t q = rw (lt-leb (suc n) 0 (omega arith))
       go (suc r) true q = absurd (true≢false (rw (lt-ltb 0 (suc r) (omega arith)) at q))
       go (suc r) false q = and-false (leb (suc n) (suc r))

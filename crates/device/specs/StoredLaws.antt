@@ -1,5 +1,6 @@
 -- What the tests of a stored device say, one by one, and the bounds that its counts then have.
-use Rattle.std.specs.Prelude.{ℕ, zero, suc, ◌≤◌, ◌<◌, ◌≡◌, Bool, true, ◌&&◌, List, [], ◌∷◌, length, take, drop, get_or, eqb, leb}
+use Rattle.std.specs.Prelude.{ℕ, zero, suc, ◌≤◌, ◌<◌, ◌≡◌, Bool, true, ◌&&◌, List, [], ◌∷◌, length, take, drop, get_or}
+use Rattle.std.specs.Prelude.{eqb, leb}
 use Rattle.std.proofs.Common.{arith, not-suc-le-zero, le_of_suc-le-suc, eqb-true, leb-true}
 use Rattle.rules.specs.declared.Loan.{Loan}
 use Rattle.rules.specs.Lists.{all}

@@ -15,7 +15,8 @@ use Rattle.rules.specs.Permissions.{known}
 use Rattle.rules.specs.Refusals.{is_group}
 use Rattle.state.specs.declared.Device.{Device}
 use Rattle.state.specs.Tables.{State, app_number, part_at, is_resource, view_of}
-use Rattle.state.specs.Valid.{same_app, same_part, same_resource, same_permission, same_instance, same_loan, is_installed}
+use Rattle.state.specs.Valid.{same_app, same_part, same_resource, same_permission, same_instance, same_loan}
+use Rattle.state.specs.Valid.{is_installed}
 use Rattle.state.specs.Valid.{manifest_from, good_grant, is_live, is_sharing_provider, tests, every, valid}
 use Rattle.state.specs.Stored.{row_of, model_of}
 use Rattle.tables.specs.Looking.{view_by}

@@ -14,7 +14,8 @@ ghost use Rattle.state.specs.Valid.{same_app, same_part, same_resource, same_per
 ghost use Rattle.state.specs.Valid.{is_installed, is_sharing_provider, valid};
 ghost use Rattle.state.specs.Stored.{is_zero, is_zero_definition, is_zero_component, is_zero_part, is_zero_resource};
 ghost use Rattle.state.specs.Stored.{is_zero_instance};
-ghost use Rattle.state.specs.Stored.{is_zero_loan, is_zero_app, app_pads, pads, padded, zero_part, mask_of, formed, row_of};
+ghost use Rattle.state.specs.Stored.{is_zero_loan, is_zero_app, app_pads, pads, padded, zero_part, mask_of, formed};
+ghost use Rattle.state.specs.Stored.{row_of};
 ghost use Rattle.state.specs.Stored.{model_of, valid_stored};
 ghost use Rattle.tables.specs.Held.{rows_in, definitions_in, parts_in, resources_in, instances_in};
 ghost use Rattle.device.specs.Tests.{defines_of, components_of, resources_of, manifest_in, part_or, owners_in};
@@ -527,9 +528,9 @@ fn parts_good(t: Parts, app: u16) -> bool
 
 /// The owners of the resources, looked up once; `owners[i]` is the app of the provider of resource i.
 fn resources_good(t: Resources, owners: [u16; 128], parts: Parts, app: u16) -> bool
-    requires count_bound { t.count ≤ 128 }
-    requires parts_value { distinct same_part (parts_in parts) ≡ true }
-    requires owners_value { owners ≡ padded 0 128 (owners_in (parts_in parts) (resources_in t)) }
+    requires resources_count { t.count ≤ 128 }
+    requires components_unique { distinct same_part (parts_in parts) ≡ true }
+    requires owners_told { owners ≡ padded 0 128 (owners_in (parts_in parts) (resources_in t)) }
     requires app_nonzero { 0 < app }
     ensures { result ≡ good_resources (components_of app (parts_in parts)) (resources_of app (parts_in parts)
         (resources_in t)) }
@@ -740,8 +741,8 @@ fn instance_good(e: Instance, parts: Parts) -> bool
 
 /// The inner loop looks for a loan's resource.
 fn loans_good(lent: [Loan; 128], count: usize, d: Device) -> bool
-    requires count_bound { count ≤ 128 }
-    requires count_bound_2 { d.resources.count ≤ 128 }
+    requires loans_count { count ≤ 128 }
+    requires resources_count { d.resources.count ≤ 128 }
     ensures { result ≡ all (good_loan (rows_in d.apps) (parts_in d.parts) (resources_in d.resources)
         (instances_in d.instances)) (take count lent) }
 {
@@ -874,12 +875,12 @@ fn manifest_good(
     resources: Resources,
     owners: [u16; 128],
 ) -> bool
-    requires a_value { app_pads a ≡ true }
-    requires count_bound { definitions.count ≤ 256 }
-    requires count_bound_2 { parts.count ≤ 64 }
-    requires count_bound_3 { resources.count ≤ 128 }
-    requires parts_value { distinct same_part (parts_in parts) ≡ true }
-    requires owners_value { owners ≡ padded 0 128 (owners_in (parts_in parts) (resources_in resources)) }
+    requires padded { app_pads a ≡ true }
+    requires definitions_count { definitions.count ≤ 256 }
+    requires parts_count { parts.count ≤ 64 }
+    requires resources_count { resources.count ≤ 128 }
+    requires components_unique { distinct same_part (parts_in parts) ≡ true }
+    requires owners_told { owners ≡ padded 0 128 (owners_in (parts_in parts) (resources_in resources)) }
     ensures { result ≡ good (manifest_in (definitions_in definitions) (parts_in parts) (resources_in resources)
         (row_of a).app) }
 {
@@ -933,9 +934,9 @@ fn app_good(
     dangerous: [bool; 64],
 ) -> bool
     requires apps_ready { AppsReady apps definitions parts resources }
-    requires a_value { app_pads a ≡ true }
-    requires owners_value { owners ≡ padded 0 128 (owners_in (parts_in parts) (resources_in resources)) }
-    requires dangerous_value { dangerous ≡ dangerous_in (rows_in apps) (definitions_in definitions) }
+    requires padded { app_pads a ≡ true }
+    requires owners_told { owners ≡ padded 0 128 (owners_in (parts_in parts) (resources_in resources)) }
+    requires dangerous_told { dangerous ≡ dangerous_in (rows_in apps) (definitions_in definitions) }
     ensures { result ≡ good_row (rows_in apps) (definitions_in definitions) (parts_in parts) (resources_in
         resources) (row_of a) }
 {
@@ -1026,9 +1027,9 @@ fn lists_valid(d: Device, lent: [Loan; 128]) -> bool
 
 /// Numbers are unique and not zero, resources unique.
 fn numbers_good(apps: Apps, parts: Parts, resources: Resources) -> bool
-    requires count_bound { apps.count ≤ 16 }
-    requires count_bound_2 { parts.count ≤ 64 }
-    requires count_bound_3 { resources.count ≤ 128 }
+    requires apps_count { apps.count ≤ 16 }
+    requires parts_count { parts.count ≤ 64 }
+    requires resources_count { resources.count ≤ 128 }
     ensures { result ≡ good_numbers (rows_in apps) (parts_in parts) (resources_in resources) }
 {
     if !apps_distinct(apps) {
@@ -1048,9 +1049,9 @@ fn numbers_good(apps: Apps, parts: Parts, resources: Resources) -> bool
 
 /// Every component, resource and definition belongs to an installed app.
 fn owners_good(apps: Apps, definitions: Definitions, parts: Parts, resources: Resources) -> bool
-    requires count_bound { definitions.count ≤ 256 }
-    requires count_bound_2 { parts.count ≤ 64 }
-    requires count_bound_3 { resources.count ≤ 128 }
+    requires definitions_count { definitions.count ≤ 256 }
+    requires parts_count { parts.count ≤ 64 }
+    requires resources_count { resources.count ≤ 128 }
     ensures { result ≡ good_owners (rows_in apps) (definitions_in definitions) (parts_in parts) (resources_in
         resources) }
 {
@@ -1074,8 +1075,8 @@ fn runs_good(instances: Instances, parts: Parts) -> bool
 }
 
 fn lending_good(d: Device, lent: [Loan; 128]) -> bool
-    requires lent_bound { d.lent ≤ 128 }
-    requires count_bound { d.resources.count ≤ 128 }
+    requires loans_count { d.lent ≤ 128 }
+    requires resources_count { d.resources.count ≤ 128 }
     ensures { result ≡ good_lending (rows_in d.apps) (parts_in d.parts) (resources_in d.resources)
         (instances_in d.instances) (take d.lent lent) }
 {

@@ -16,7 +16,8 @@ use Rattle.rules.specs.Limits.{Limits}
 use Rattle.rules.specs.Action.{Receiver, Op, reading, writing, Action}
 use Rattle.rules.specs.Answer.{answer}
 use Rattle.rules.specs.DoneLaws.{lends_some_lem}
-use Rattle.state.specs.Tables.{State, fresh, apps_of, app_at, part_at, defined_in, granted_in, grouped_in, run_in, value_in}
+use Rattle.state.specs.Tables.{State, fresh, apps_of, app_at, part_at, defined_in, granted_in, grouped_in, run_in}
+use Rattle.state.specs.Tables.{value_in}
 use Rattle.state.specs.Tables.{lent_in, view_of}
 use Rattle.state.specs.Effects.{loans_after, next, after, device}
 use Rattle.state.proofs.LookupLaws.{apps-after}
@@ -59,7 +60,8 @@ pub record Agrees (s : State) (h : List Past) : Type 0 where
       → left_pairs still newer s.loans ≡ total (λ l e. lasting still l e.action) newer h
 
 begin : Agrees fresh []
-unfolding fresh log_app log_part log_defined log_runs log_granted log_grouped log_lent log_value total app_at part_at defined_in
+unfolding fresh log_app log_part log_defined log_runs log_granted log_grouped log_lent log_value total app_at part_at
+    defined_in
     run_in granted_in grouped_in lent_in value_in find keep bind map_option
 begin =
     record {

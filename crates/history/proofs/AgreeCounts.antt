@@ -21,7 +21,8 @@ use Rattle.rules.specs.Lists.{any, all, keep, find, distinct, is_some, test, bin
 use Rattle.rules.specs.ListsLaws.{find-append, all-mem, any-mono, none_any, keep_append, keep-keep, keep-map, keep-mem}
 use Rattle.rules.specs.ListsLaws.{keep_all, none_kept, length-map, eqb-sym, and_left, clashing}
 use Rattle.rules.specs.Limits.{Limits}
-use Rattle.rules.specs.Action.{install, uninstall, start, stop, Action, on_apps, on_grants, on_runs, write, on_loans, query}
+use Rattle.rules.specs.Action.{install, uninstall, start, stop, Action, on_apps, on_grants, on_runs, write, on_loans}
+use Rattle.rules.specs.Action.{query}
 use Rattle.rules.specs.View.{App, app_of, part_of}
 use Rattle.rules.specs.Answer.{answer}
 use Rattle.rules.specs.DoneLaws.{install-good, install-new, provided}

@@ -11,7 +11,8 @@ use Rattle.rules.specs.Action.{install, uninstall, grant, revoke, grant_group, r
 use Rattle.rules.specs.Action.{on_runs, write, on_loans, query}
 use Rattle.rules.specs.Answer.{answer}
 use Rattle.rules.specs.DoneLaws.{grant-app, group-app, is-some}
-use Rattle.state.specs.Tables.{Row, State, app_number, apps_of, app_at, defined_by, defined_in, granted_in, grouped_in, view_of}
+use Rattle.state.specs.Tables.{Row, State, app_number, apps_of, app_at, defined_by, defined_in, granted_in, grouped_in}
+use Rattle.state.specs.Tables.{view_of}
 use Rattle.state.specs.Effects.{grants_at, groups_at, keep_grants, apps_after}
 use Rattle.state.specs.Valid.{is_installed}
 use Rattle.state.specs.Ok.{Ok}

@@ -13,8 +13,10 @@ use Rattle.rules.specs.declared.Part.{Part}
 use Rattle.rules.specs.Lists.{any, keep, test}
 use Rattle.rules.specs.ListsLaws.{all-mem, none-mem, keep_append, keep-keep, keep-map, keep-mem, length-map, eqb-sym}
 use Rattle.rules.specs.ListsLaws.{eqb_same, and-true, and-false}
-use Rattle.rules.specs.Action.{Receiver, an_instance, an_app, receiver_kind, receiver_number, same_receiver, Op, carries}
-use Rattle.rules.specs.Action.{install, uninstall, start, stop, lend, withdraw, Action, on_apps, on_grants, on_runs, write}
+use Rattle.rules.specs.Action.{Receiver, an_instance, an_app, receiver_kind, receiver_number, same_receiver, Op}
+use Rattle.rules.specs.Action.{carries}
+use Rattle.rules.specs.Action.{install, uninstall, start, stop, lend, withdraw, Action, on_apps, on_grants, on_runs}
+use Rattle.rules.specs.Action.{write}
 use Rattle.rules.specs.Action.{on_loans, query}
 use Rattle.rules.specs.DoneLaws.{lends_some}
 use Rattle.state.specs.Tables.{is_to, is_on, is_loan}

@@ -9,7 +9,8 @@ use Rattle.rules.specs.declared.Part.{Part}
 use Rattle.rules.specs.Lists.{any, distinct}
 use Rattle.rules.specs.ListsLaws.{any_append, any-one, any-map, any-keep, any-cong, any-and, any-or, eqb-sym, and-false}
 use Rattle.rules.specs.ListsLaws.{and-true, or-false, and_left, and_right, cond-false, cond-true}
-use Rattle.rules.specs.Action.{Receiver, an_instance, an_app, receiver_kind, receiver_number, same_receiver, Op, reading}
+use Rattle.rules.specs.Action.{Receiver, an_instance, an_app, receiver_kind, receiver_number, same_receiver, Op}
+use Rattle.rules.specs.Action.{reading}
 use Rattle.rules.specs.Action.{writing, carries, install, uninstall, start, stop, lend, withdraw, Action, on_apps}
 use Rattle.rules.specs.Action.{on_grants, on_runs, write, on_loans, query}
 use Rattle.rules.specs.ActionLaws.{carries-those}

@@ -13,8 +13,10 @@ use Rattle.rules.specs.Lists.{any, all, keep, distinct}
 use Rattle.rules.specs.ListsLaws.{any-cong, any-mono, all-mem, all_append, all_map, keep-mem, keep_all, keep-map}
 use Rattle.rules.specs.ListsLaws.{map-map, map-append, none-mem, eqb-sym, eqb_same, or-false, and_left, and_right, flat}
 use Rattle.rules.specs.ListsLaws.{clashing}
-use Rattle.rules.specs.Action.{Receiver, an_instance, an_app, receiver_kind, receiver_number, Op, reading, writing, carries}
-use Rattle.rules.specs.Action.{is_operations, install, uninstall, start, stop, lend, withdraw, Action, on_apps, on_grants}
+use Rattle.rules.specs.Action.{Receiver, an_instance, an_app, receiver_kind, receiver_number, Op, reading, writing}
+use Rattle.rules.specs.Action.{carries}
+use Rattle.rules.specs.Action.{is_operations, install, uninstall, start, stop, lend, withdraw, Action, on_apps}
+use Rattle.rules.specs.Action.{on_grants}
 use Rattle.rules.specs.Action.{on_runs, write, on_loans, query}
 use Rattle.rules.specs.ActionLaws.{carries-those}
 use Rattle.rules.specs.DoneLaws.{lends_some}
@@ -118,7 +120,8 @@ pairs-stay ls fine = keep-map (some_in ls) pair_of ls
     ∙ ap (map pair_of) (keep_all (λ x. some_in ls (pair_of x)) ls (λ x m. own-some ls fine m))
 
 -- a change of operations leaves the pairs
-same-pairs : (f : Loan → Op → Bool) (ls : List Loan) → map pair_of (map (λ x. with_operations (f x) x) ls) ≡ map pair_of ls
+same-pairs : (f : Loan → Op → Bool) (ls : List Loan) → map pair_of (map (λ x. with_operations (f x) x) ls)
+    ≡ map pair_of ls
 unfolding pair_of receiver_of with_operations
 same-pairs f ls = map-map pair_of (λ x. with_operations (f x) x) ls
 

@@ -18,7 +18,8 @@ use Rattle.rules.specs.Lists.{any, find, mem, test, bind, map_option, or_else}
 use Rattle.rules.specs.ListsLaws.{and-false, cond-false, cond-true, clashing, find-holds}
 use Rattle.rules.specs.Limits.{Limits}
 use Rattle.rules.specs.Action.{Receiver, an_instance, an_app, same_receiver, Op, carries, install, uninstall, grant}
-use Rattle.rules.specs.Action.{revoke, grant_group, revoke_group, start, stop, lend, withdraw, Action, on_apps, on_grants}
+use Rattle.rules.specs.Action.{revoke, grant_group, revoke_group, start, stop, lend, withdraw, Action, on_apps}
+use Rattle.rules.specs.Action.{on_grants}
 use Rattle.rules.specs.Action.{on_runs, write, on_loans, read, query, reading, writing}
 use Rattle.rules.specs.View.{App, View}
 use Rattle.rules.specs.Permissions.{allows}
@@ -163,10 +164,12 @@ pub loan-ended : (h : List Past) (r : Receiver) (p u : ℕ) (op : Op)
 loan-ended h r p u op =
     gone (gives_loan r p u op) (ends_loan r p u op) (λ h. log_lent h r p u op) (loan-step r p u op) h
 
-pub grant-ended : (h : List Past) (a p : ℕ) → EndedSince (gives_grant a p) (ends_grant a p) h → log_granted h a p ≡ false
+pub grant-ended : (h : List Past) (a p : ℕ) → EndedSince (gives_grant a p) (ends_grant a p) h → log_granted h a p
+    ≡ false
 grant-ended h a p = gone (gives_grant a p) (ends_grant a p) (λ h. log_granted h a p) (grant-step a p) h
 
-pub group-ended : (h : List Past) (a g : ℕ) → EndedSince (gives_group a g) (ends_group a g) h → log_grouped h a g ≡ false
+pub group-ended : (h : List Past) (a g : ℕ) → EndedSince (gives_group a g) (ends_group a g) h → log_grouped h a g
+    ≡ false
 group-ended h a g = gone (gives_group a g) (ends_group a g) (λ h. log_grouped h a g) (group-step a g) h
 
 -- ---- and so no access rests on it

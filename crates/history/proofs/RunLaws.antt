@@ -72,8 +72,10 @@ module _ (s : List ℕ) where
             lent = monitor_steps.lent (device_of (state_at n)) (lent_of 128 (state_at n)) a m;
           })
           (record {
-            device = device_of (after (state_at n) (action_of a m) (answer large (view_of (state_at n)) (action_of a m)));
-            lent = lent_of 128 (after (state_at n) (action_of a m) (answer large (view_of (state_at n)) (action_of a m)));
+            device = device_of (after (state_at n) (action_of a m)
+                (answer large (view_of (state_at n)) (action_of a m)));
+            lent = lent_of 128 (after (state_at n) (action_of a m)
+                (answer large (view_of (state_at n)) (action_of a m)));
           })
       go a m = unfold monitor_steps in
           rw (

@@ -15,11 +15,13 @@ use Rattle.rules.specs.Lists.{all, mem, is_some, missing, test, bind, map_option
 use Rattle.rules.specs.ListsLaws.{and_left, and_right, and-false, or-false, flat, eqb_same, or-true, all_any}
 use Rattle.rules.specs.Limits.{Limits}
 use Rattle.rules.specs.Action.{Receiver, Op, reading, writing, carries, GrantAction, grant, revoke}
-use Rattle.rules.specs.Action.{grant_group, revoke_group, lend, withdraw, read, Action, on_apps, on_grants, on_runs, write}
+use Rattle.rules.specs.Action.{grant_group, revoke_group, lend, withdraw, read, Action, on_apps, on_grants, on_runs}
+use Rattle.rules.specs.Action.{write}
 use Rattle.rules.specs.Action.{on_loans, query}
 use Rattle.rules.specs.View.{App, View}
 use Rattle.rules.specs.Permissions.{holds}
-use Rattle.rules.specs.Grounds.{is_exported, is_sharing, is_ground, right_ground, ground, running_app, provider, right_of}
+use Rattle.rules.specs.Grounds.{is_exported, is_sharing, is_ground, right_ground, ground, running_app, provider}
+use Rattle.rules.specs.Grounds.{right_of}
 use Rattle.rules.specs.Grounds.{ground_of}
 use Rattle.rules.proofs.PermissionsLaws.{holds-dangerous}
 use Rattle.rules.specs.GroundsLaws.{right-exactly, ground-exactly}

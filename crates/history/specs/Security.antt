@@ -38,7 +38,8 @@ pub record GrantedSince (h : List Past) (a p : ℕ) : Type 0 where
   pub value : ℕ
   pub older : List Past
   pub split : h ≡ newer ++ (record { action = on_grants (grant a p); value = value } ∷ older)
-  pub unended : ended_in (ends_grant a p) newer (record { action = on_grants (grant a p); value = value } ∷ older) ≡ false
+  pub unended : ended_in (ends_grant a p) newer (record { action = on_grants (grant a p); value = value } ∷ older)
+      ≡ false
 
 -- instance n runs, of app a; p is a provider, component k; the resource is there
 pub record There (v : View) (p n u : ℕ) (a : App) (k : Part) : Type 0 where

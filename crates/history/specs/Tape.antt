@@ -1,6 +1,7 @@
 -- Which bytes are a tape, where its parts stand, and what it asks for: document 01, "The tape and the answer sheet".
 -- A byte past the end reads as 0; the last test of `is_tape` refuses a tape that is cut or has bytes left over.
-use Rattle.std.specs.Prelude.{ℕ, zero, suc, ◌+◌, ◌*◌, Bool, true, ◌&&◌, cond, List, [], ◌∷◌, length, take, drop, eqb, leb, ltb}
+use Rattle.std.specs.Prelude.{ℕ, zero, suc, ◌+◌, ◌*◌, Bool, true, ◌&&◌, cond, List, [], ◌∷◌, length, take, drop, eqb}
+use Rattle.std.specs.Prelude.{leb, ltb}
 use Rattle.manifest.specs.Layout.{u8_at, u16_at}
 use Rattle.rules.specs.Action.{Action}
 use Rattle.rules.specs.Record.{action_of}

@@ -1,11 +1,11 @@
 -- What the proofs of the covered functions cite, under one name.
 pub use Prim.Native.Nat.{◌-◌}
 pub use mathlib.Core.Path.{◌≡◌, refl, sym, ap, ◌∙◌}
-pub use mathlib.Core.Bool.{Bool, true, false, not, ◌&&◌, ◌||◌}
+use mathlib.Core.Bool.{Bool}
+pub use mathlib.Core.Bool.{true, false, not, ◌&&◌, ◌||◌}
 pub use native.Mathlib.Omega.{arith}
-pub use borrow.Author.Rules.{rules}
 pub use borrow.Author.Tests.{eq-eqb, ne_eqb, not-true, not-false}
-pub use Rattle.rules.specs.Lists.{any, keep}
+pub use Rattle.rules.specs.Lists.{any}
 pub use Rattle.tables.specs.Scan.{Bound, bound, Some, some-begin, some_next, some-hits, some-ends}
 pub use Rattle.tables.specs.ChangingLaws.{Cleared, cleared-begin, cleared-next, cleared-ends, cleared-count}
 pub use Rattle.loans.specs.HeldLaws.{with-by, kept_by, appended-full, appended-more, lend-widens, lend-adds}

@@ -5,7 +5,8 @@ use Rattle.manifest.specs.Layout.{manifest_of, u8_at, u16_at, u32_at}
 use Rattle.rules.specs.Lists.{find, test, or_else, map_option}
 use Rattle.rules.specs.Action.{an_instance, an_app, install, uninstall, grant, revoke, grant_group, revoke_group, start}
 use Rattle.rules.specs.Action.{stop}
-use Rattle.rules.specs.Action.{lend, withdraw, read, ask, malformed, Action, on_apps, on_grants, on_runs, write, on_loans}
+use Rattle.rules.specs.Action.{lend, withdraw, read, ask, malformed, Action, on_apps, on_grants, on_runs, write}
+use Rattle.rules.specs.Action.{on_loans}
 use Rattle.rules.specs.Action.{query}
 use Rattle.rules.specs.Record.{Fields, forms, fitting}
 use Rattle.loans.specs.declared.Record.{Record}

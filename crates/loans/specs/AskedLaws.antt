@@ -1,5 +1,6 @@
 -- What the bytes ask for, as a case, is the action of the rules; and a code that is not listed asks for nothing.
-use Rattle.std.specs.Prelude.{ℕ, zero, suc, ◌+◌, ◌≤◌, ◌≡◌, Bool, true, false, ◌&&◌, cond, List, [], ◌∷◌, length, eqb, leb}
+use Rattle.std.specs.Prelude.{ℕ, zero, suc, ◌+◌, ◌≤◌, ◌≡◌, Bool, true, false, ◌&&◌, cond, List, [], ◌∷◌, length, eqb}
+use Rattle.std.specs.Prelude.{leb}
 use Rattle.std.proofs.Math.Path.{refl}
 use Rattle.std.proofs.Math.Option.{none}
 use Rattle.std.proofs.Common.{arith, leb-true, ne_eqb}

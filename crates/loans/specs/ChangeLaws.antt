@@ -62,7 +62,8 @@ module _ {old new : List Loan} {n i : ℕ} (s : Alike old new n i) where
   pub alike_next : i < n → (d : Loan) → is_same (get_or old i d) (get_or new i d) ≡ true → Alike old new n (i + 1)
   unfolding first_change
   alike_next h d e =
-      let f : first_change old new ≡ i + suc (first_change (drop (suc i) old) (drop (suc i) new)) = alike_at h d ∙ rw e in
+      let f : first_change old new ≡ i + suc (first_change (drop (suc i) old) (drop (suc i) new)) = alike_at h d
+      ∙ rw e in
       let g : first_change old new ≡ (i + 1) + first_change (drop (suc i) old) (drop (suc i) new) = omega arith in
       record {
         whole = s.whole;

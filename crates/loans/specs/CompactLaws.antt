@@ -1,7 +1,8 @@
 -- A loop that changes the entries of an array, and moves those that pass to the front in their order: one record as
 -- the invariant, one law for each place of the loop, over any change and any test.
 use Rattle.std.specs.Prelude.{ℕ, ◌+◌, ◌≤◌, ◌<◌, ◌≡◌, refl, Bool, true, false, length, take, drop, get_or, set}
-use Rattle.std.proofs.Common.{sym, ◌∙◌, add-one, arith, length-set, take-suc, get_or-drop, take-suc-set, drop-set-lt, drop-drop}
+use Rattle.std.proofs.Common.{sym, ◌∙◌, add-one, arith, length-set, take-suc, get_or-drop, take-suc-set, drop-set-lt}
+use Rattle.std.proofs.Common.{drop-drop}
 use Rattle.std.proofs.Math.Path.{ap}
 use mathlib.Core.List.{List, [], ◌∷◌, ◌++◌, map, map-append, append-nil}
 use Rattle.rules.specs.Lists.{keep}

@@ -23,7 +23,8 @@ put-more : {A : Type 0} (z : A) (n : ℕ) (l : List A) (i : ℕ) → i < n → i
     → set (padded z n (take i l)) i (get_or l i z) ≡ padded z n (take (i + 1) l)
 put-more z n l i h b =
     let k : length (take i l) ≡ i = length-take-le i l (omega arith) in
-    ap (λ (j : ℕ). set (padded z n (take i l)) j (get_or l i z)) (sym k) ∙ seam z n (take i l) (get_or l i z) (omega arith)
+    ap (λ (j : ℕ). set (padded z n (take i l)) j (get_or l i z)) (sym k)
+    ∙ seam z n (take i l) (get_or l i z) (omega arith)
     ∙ ap (padded z n) (sym (take-suc l i z b) ∙ ap (λ (j : ℕ). take j l) (sym (add-one i)))
 
 pub copied_none : (l : List Loan) → no_loans ≡ copied 0 l

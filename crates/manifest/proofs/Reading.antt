@@ -28,7 +28,8 @@ within : (s : List ℕ) (p : Place) → onward s p ≤ length s → p ≡ place.
 within s (place.At n) h = refl
 within s place.Refused h = absurd (omega arith)
 
-opened : (p : Place) (f : ℕ → Place) {e : ℕ} → then_at p f ≡ place.At e → (n : ℕ) × (p ≡ place.At n) × (f n ≡ place.At e)
+opened : (p : Place) (f : ℕ → Place) {e : ℕ} → then_at p f ≡ place.At e → (n : ℕ) × (p ≡ place.At n)
+    × (f n ≡ place.At e)
 opened (place.At n) f k = (n, refl, k)
 opened place.Refused f k = absurd (let z : ◌≡◌ {A = ℕ} 0 1 = cc in omega arith)
 

@@ -1,8 +1,10 @@
 -- Reading and writing a manifest undo each other; a good manifest's image consists of bytes, at most 474; and bytes are
 -- accepted exactly if they are the image of a good manifest.
-use Rattle.std.specs.Prelude.{◌≡◌, Bool, true, false, cond, not, ◌||◌, ◌↔◌, ℕ, zero, suc, ◌+◌, ◌*◌, ◌/◌, ◌%◌, ◌≤◌, ◌<◌, drop, eqb, leb}
+use Rattle.std.specs.Prelude.{◌≡◌, Bool, true, false, cond, not, ◌||◌, ◌↔◌, ℕ, zero, suc, ◌+◌, ◌*◌, ◌/◌, ◌%◌, ◌≤◌, ◌<◌}
+use Rattle.std.specs.Prelude.{drop, eqb, leb}
 use Rattle.std.proofs.Math.Path.{refl, sym, ap, ap₂}
-use Rattle.std.proofs.Common.{◌∙◌, add-zero, add_assoc, mul-suc, mul-le-mul_left, add-one, length-append, get_or-append-add, drop-cons}
+use Rattle.std.proofs.Common.{◌∙◌, add-zero, add_assoc, mul-suc, mul-le-mul_left, add-one, length-append}
+use Rattle.std.proofs.Common.{get_or-append-add, drop-cons}
 use mathlib.Core.List.{List, [], ◌∷◌, ◌++◌, append_assoc, append-nil}
 use Rattle.std.proofs.Math.Bool.{◌&&◌}
 use native.Mathlib.Omega.{arith}

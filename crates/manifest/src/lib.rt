@@ -403,8 +403,8 @@ fn resources_rise(s: &[u8], components: usize, n: usize, from: usize, count: usi
 /// A provider of the number `p` is among the components. That of the resource before, `last`, is, unless it is 0 for
 /// none: resources mostly have the same provider as the one before.
 fn knows_provider(s: &[u8], from: usize, count: usize, last: u16, p: u16) -> bool
-    requires count_in_bounds { from + 8 * count ≤ length s.now }
-    requires count_value { 0 < last → any (is_provider_of last) (entries (component_at s.now) 8 from count) ≡ true }
+    requires within { from + 8 * count ≤ length s.now }
+    requires last_known { 0 < last → any (is_provider_of last) (entries (component_at s.now) 8 from count) ≡ true }
     ensures { result ≡ any (is_provider_of p) (entries (component_at s.now) 8 from count) }
 {
     let again = (p == last) & (0 < last);

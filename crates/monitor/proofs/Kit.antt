@@ -2,7 +2,6 @@
 pub use Prim.Native.Nat.{ℕ, ◌+◌, ◌*◌, ◌≤◌}
 pub use mathlib.Core.Path.{◌≡◌, refl, sym, ap, ◌∙◌}
 pub use native.Mathlib.Omega.{arith}
-pub use borrow.Author.Rules.{rules}
 pub use borrow.Author.Tests.{lt-leb, le-leb, leb-true}
 pub use Rattle.manifest.specs.Layout.{entries, u8_at, define_at, component_at, resource_at}
 pub use Rattle.state.specs.Stored.{model_of}

@@ -19,7 +19,8 @@ use Rattle.tables.specs.declared.Change.{Change}
 use Rattle.tables.specs.declared.Change.TheVariants.{AddGrant, TakeGrant, AddGroup, TakeGroup}
 use Rattle.tables.specs.Finding.{is_app}
 use Rattle.tables.specs.Held.{apps_in, apps_table}
-use Rattle.tables.specs.HeldLaws.{held, app-less, grants-dropped, room_for_grant, room_for_group, grant-added, grant-taken}
+use Rattle.tables.specs.HeldLaws.{held, app-less, grants-dropped, room_for_grant, room_for_group, grant-added}
+use Rattle.tables.specs.HeldLaws.{grant-taken}
 use Rattle.tables.specs.HeldLaws.{group-added, group-taken}
 use Rattle.tables.specs.Changing.{change_app, drop_grants}
 use Rattle.monitor.specs.Made.{asking}

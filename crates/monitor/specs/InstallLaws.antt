@@ -20,7 +20,8 @@ use Rattle.rules.specs.Limits.{large}
 use Rattle.rules.specs.Action.{on_apps, install}
 use Rattle.rules.specs.View.{part_of, definition_of}
 use Rattle.state.specs.Tables.{Row, State}
-use Rattle.state.specs.Effects.{apps_after, definitions_after, parts_after, resources_after, instances_after, loans_after}
+use Rattle.state.specs.Effects.{apps_after, definitions_after, parts_after, resources_after, instances_after}
+use Rattle.state.specs.Effects.{loans_after}
 use Rattle.state.specs.Effects.{next}
 use Rattle.state.specs.Stored.{app_from, device_of}
 use Rattle.state.specs.Capacity.{Fits}
@@ -180,7 +181,8 @@ module _ (s : State) (image : Bool) (z : List ℕ) (v : ℕ) where
           ∙ ap (λ (r : List Resource). resources_table (s.resources ++ r)) (map-itself m.resources)
 
   pub install-made : good (manifest_of z) ≡ true → Fits large (next s (on_apps (install image (manifest_of z))) v)
-      → install_made z image (sections_of z) (device_of s) ≡ device_of (next s (on_apps (install image (manifest_of z))) v)
+      → install_made z image (sections_of z) (device_of s)
+      ≡ device_of (next s (on_apps (install image (manifest_of z))) v)
   install-made h fits =
       let q = good-laid z h in
       let uses = (good-parts (laid_out z) (rw q at h)).uses in

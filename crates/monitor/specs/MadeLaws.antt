@@ -8,7 +8,8 @@ use Rattle.rules.specs.declared.Answer.TheVariants.{Done}
 use Rattle.rules.specs.Limits.{large}
 use Rattle.rules.specs.Action.{Action, on_apps, uninstall, on_grants, on_runs, start, stop, write, on_loans, LoanAction}
 use Rattle.state.specs.Tables.{State}
-use Rattle.state.specs.Effects.{apps_after, definitions_after, parts_after, resources_after, instances_after, loans_after}
+use Rattle.state.specs.Effects.{apps_after, definitions_after, parts_after, resources_after, instances_after}
+use Rattle.state.specs.Effects.{loans_after}
 use Rattle.state.specs.Effects.{next}
 use Rattle.state.specs.Stored.{device_of}
 use Rattle.state.specs.Valid.{valid}

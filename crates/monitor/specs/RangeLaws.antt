@@ -20,7 +20,8 @@ use Rattle.rules.specs.Lists.{any, all, mem, find, is_some, test, bind, map_opti
 use Rattle.rules.specs.ListsLaws.{and_left, and_right, both, all-mem, mem-all, all_any, all_found, all_map}
 use Rattle.rules.specs.ListsLaws.{all_append, find-holds}
 use Rattle.rules.specs.Limits.{large}
-use Rattle.rules.specs.Action.{on_grants, on_runs, start, on_loans, lend, Receiver, an_instance, an_app, receiver_number}
+use Rattle.rules.specs.Action.{on_grants, on_runs, start, on_loans, lend, Receiver, an_instance, an_app}
+use Rattle.rules.specs.Action.{receiver_number}
 use Rattle.rules.specs.View.{App}
 use Rattle.rules.specs.Permissions.{known, dangerous}
 use Rattle.rules.specs.Grounds.{running_app}

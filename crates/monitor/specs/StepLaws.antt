@@ -25,7 +25,8 @@ use Rattle.rules.specs.Action.{query, Query}
 use Rattle.rules.specs.DoneLaws.{install-good}
 use Rattle.state.specs.declared.Device.{Device}
 use Rattle.state.specs.Tables.{view_of, is_loan}
-use Rattle.state.specs.Effects.{apps_after, definitions_after, parts_after, resources_after, instances_after, loans_after}
+use Rattle.state.specs.Effects.{apps_after, definitions_after, parts_after, resources_after, instances_after}
+use Rattle.state.specs.Effects.{loans_after}
 use Rattle.state.specs.Effects.{next, after, loan_of, widened}
 use Rattle.state.specs.Stored.{mask_of, model_of, device_of, lent_of, formed, valid_stored}
 use Rattle.state.specs.Step.{inner_answer, inner_state, step_answer, step_device, step_lent}
@@ -129,14 +130,16 @@ module _ (d : Device) (lent : List Loan) (k : Kept d lent) (a : Answer) (g : Gro
       (made ∙ ap (λ (n : Device). grant_made n c b m) (sym k.device)
       ∙ grant-made (model_of d lent) v c b m (fitting (on_grants (asking c b m)) f)) (sym k.loans)
 
-  pub write-steps : (p n u x : ℕ) → a ≡ answer_to (model_of d lent) (write p n u x) → (e : Device) → e ≡ write_made d p u x
+  pub write-steps : (p n u x : ℕ) → a ≡ answer_to (model_of d lent) (write p n u x) → (e : Device) → e
+      ≡ write_made d p u x
       → record { device = e; lent = lent; answer = a } ≡ stepped_by d lent (write p n u x)
   unfolding next loans_after
   write-steps p n u x f e made = done-steps d lent (write p n u x) a g v e lent f r
       (made ∙ ap (λ (n : Device). write_made n p u x) (sym k.device) ∙ write-made (model_of d lent) v p n u x)
       (sym k.loans)
 
-  pub start-steps : (c n : ℕ) → a ≡ answer_to (model_of d lent) (on_runs (start c n)) → (e : Device) → e ≡ start_made d c v
+  pub start-steps : (c n : ℕ) → a ≡ answer_to (model_of d lent) (on_runs (start c n)) → (e : Device) → e
+      ≡ start_made d c v
       → record { device = e; lent = lent; answer = a } ≡ stepped_by d lent (on_runs (start c n))
   unfolding next loans_after
   start-steps c n f e made = done-steps d lent (on_runs (start c n)) a g v e lent f r
@@ -161,7 +164,8 @@ module _ (d : Device) (lent : List Loan) (k : Kept d lent) (a : Answer) (g : Gro
   abbrev pub left : Action → Loans
   left x = loans_table (loans_after (model_of d lent).parts (model_of d lent).loans x)
 
-  pub stop-steps : (n : ℕ) → a ≡ answer_to (model_of d lent) (on_runs (stop n)) → (t : Loans) → t ≡ left (on_runs (stop n))
+  pub stop-steps : (n : ℕ) → a ≡ answer_to (model_of d lent) (on_runs (stop n)) → (t : Loans) → t
+      ≡ left (on_runs (stop n))
       → (e : Device) → e ≡ stop_made d t.count n
       → record { device = e; lent = t.entries; answer = a } ≡ stepped_by d lent (on_runs (stop n))
   unfolding next
@@ -170,7 +174,8 @@ module _ (d : Device) (lent : List Loan) (k : Kept d lent) (a : Answer) (g : Gro
       ∙ ap (λ (b : Device). stop_made b (left (on_runs (stop n))).count n) (sym k.device)
       ∙ stop-made (model_of d lent) v n) (ap (λ (u : Loans). u.entries) o)
 
-  pub loans-steps : (z : LoanAction) → a ≡ answer_to (model_of d lent) (on_loans z) → (t : Loans) → t ≡ left (on_loans z)
+  pub loans-steps : (z : LoanAction) → a ≡ answer_to (model_of d lent) (on_loans z) → (t : Loans) → t
+      ≡ left (on_loans z)
       → (e : Device) → e ≡ with_lent d t.count
       → record { device = e; lent = t.entries; answer = a } ≡ stepped_by d lent (on_loans z)
   unfolding next

@@ -20,7 +20,8 @@ module _ (d : Device) (lent : List Loan) where
   apps-unasked (install i m) = refl
   apps-unasked (uninstall b) = refl
 
-  pub grants-unasked : (z : GrantAction) → answer_to (model_of d []) (on_grants z) ≡ answer_to (model_of d lent) (on_grants z)
+  pub grants-unasked : (z : GrantAction) → answer_to (model_of d []) (on_grants z)
+      ≡ answer_to (model_of d lent) (on_grants z)
   unfolding answer refusals ground_for value_for view_of model_of known groupable
   grants-unasked (grant b p) = refl
   grants-unasked (revoke b p) = refl
@@ -34,10 +35,12 @@ module _ (d : Device) (lent : List Loan) where
   runs-unasked (stop n) = refl
 
   pub withdraw-unasked : (o p n u : ℕ)
-      → answer_to (model_of d []) (on_loans (withdraw o p n u)) ≡ answer_to (model_of d lent) (on_loans (withdraw o p n u))
+      → answer_to (model_of d []) (on_loans (withdraw o p n u))
+      ≡ answer_to (model_of d lent) (on_loans (withdraw o p n u))
   unfolding answer refusals ground_for value_for view_of model_of provider running_app right_of right_ground
   withdraw-unasked o p n u = unfold allows holds known hold in refl
 
-  pub ask-unasked : (b p : ℕ) → answer_to (model_of d []) (query (ask b p)) ≡ answer_to (model_of d lent) (query (ask b p))
+  pub ask-unasked : (b p : ℕ) → answer_to (model_of d []) (query (ask b p))
+      ≡ answer_to (model_of d lent) (query (ask b p))
   unfolding answer refusals ground_for value_for view_of model_of known holds hold
   ask-unasked b p = refl

@@ -596,8 +596,8 @@ fn after_change(
     member: u16,
     answer: Answer,
 ) -> Stepped
-    requires lent_value { valid_stored d lent ≡ true }
-    requires answer_value { answer ≡ answer_to (model_of d lent) (on_grants (asking change app member)) }
+    requires state_valid { valid_stored d lent ≡ true }
+    requires answer_given { answer ≡ answer_to (model_of d lent) (on_grants (asking change app member)) }
     ensures { result ≡ stepped_by d lent (on_grants (asking change app member)) }
 {
     match answer {
@@ -630,8 +630,8 @@ fn after_write(
     value: u32,
     answer: Answer,
 ) -> Stepped
-    requires lent_value { valid_stored d lent ≡ true }
-    requires answer_value { answer ≡ answer_to (model_of d lent) (write provider instance uri value) }
+    requires state_valid { valid_stored d lent ≡ true }
+    requires answer_given { answer ≡ answer_to (model_of d lent) (write provider instance uri value) }
     ensures { result ≡ stepped_by d lent (write provider instance uri value) }
 {
     match answer {
@@ -655,8 +655,8 @@ fn after_write(
 }
 
 fn after_start(d: Device, lent: [Loan; 128], component: u16, caller: u16, answer: Answer) -> Stepped
-    requires lent_value { valid_stored d lent ≡ true }
-    requires answer_value { answer ≡ answer_to (model_of d lent) (on_runs (start component caller)) }
+    requires state_valid { valid_stored d lent ≡ true }
+    requires answer_given { answer ≡ answer_to (model_of d lent) (on_runs (start component caller)) }
     ensures { result ≡ stepped_by d lent (on_runs (start component caller)) }
 {
     match answer {
@@ -682,8 +682,8 @@ fn after_start(d: Device, lent: [Loan; 128], component: u16, caller: u16, answer
 
 // The bytes are a good manifest wherever the answer is done.
 fn after_install(d: Device, lent: [Loan; 128], image: bool, s: &[u8], answer: Answer) -> Stepped
-    requires lent_value { valid_stored d lent ≡ true }
-    requires answer_value { answer ≡ answer_to (model_of d lent) (on_apps (install image (manifest_of s.now))) }
+    requires state_valid { valid_stored d lent ≡ true }
+    requires answer_given { answer ≡ answer_to (model_of d lent) (on_apps (install image (manifest_of s.now))) }
     ensures { result ≡ stepped_by d lent (on_apps (install image (manifest_of s.now))) }
 {
     match answer {
@@ -717,8 +717,8 @@ fn after_install(d: Device, lent: [Loan; 128], image: bool, s: &[u8], answer: An
 }
 
 fn after_stop(d: Device, lent: [Loan; 128], instance: u16, answer: Answer) -> Stepped
-    requires lent_value { valid_stored d lent ≡ true }
-    requires answer_value { answer ≡ answer_to (model_of d lent) (on_runs (stop instance)) }
+    requires state_valid { valid_stored d lent ≡ true }
+    requires answer_given { answer ≡ answer_to (model_of d lent) (on_runs (stop instance)) }
     ensures { result ≡ stepped_by d lent (on_runs (stop instance)) }
 {
     match answer {
@@ -756,8 +756,9 @@ fn after_withdraw(
     uri: u16,
     answer: Answer,
 ) -> Stepped
-    requires lent_value { valid_stored d lent ≡ true }
-    requires answer_value { answer ≡ answer_to (model_of d lent) (on_loans (withdraw operations provider instance uri)) }
+    requires state_valid { valid_stored d lent ≡ true }
+    requires answer_given { answer
+        ≡ answer_to (model_of d lent) (on_loans (withdraw operations provider instance uri)) }
     ensures { result ≡ stepped_by d lent (on_loans (withdraw operations provider instance uri)) }
 {
     match answer {
@@ -787,8 +788,8 @@ fn after_withdraw(
 }
 
 fn after_uninstall(d: Device, lent: [Loan; 128], app: u16, answer: Answer) -> Stepped
-    requires lent_value { valid_stored d lent ≡ true }
-    requires answer_value { answer ≡ answer_to (model_of d lent) (on_apps (uninstall app)) }
+    requires state_valid { valid_stored d lent ≡ true }
+    requires answer_given { answer ≡ answer_to (model_of d lent) (on_apps (uninstall app)) }
     ensures { result ≡ stepped_by d lent (on_apps (uninstall app)) }
 {
     match answer {
@@ -828,8 +829,9 @@ fn after_lend(
     to: Receiver,
     answer: Answer,
 ) -> Stepped
-    requires lent_value { valid_stored d lent ≡ true }
-    requires answer_value { answer ≡ answer_to (model_of d lent) (on_loans (lend operations provider giver uri (receiver_of to))) }
+    requires state_valid { valid_stored d lent ≡ true }
+    requires answer_given { answer
+        ≡ answer_to (model_of d lent) (on_loans (lend operations provider giver uri (receiver_of to))) }
     ensures { result ≡ stepped_by d lent (on_loans (lend operations provider giver uri (receiver_of to))) }
 {
     match answer {

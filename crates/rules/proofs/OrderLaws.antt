@@ -111,5 +111,6 @@ ordered L v x = record {
         (Done (ground_for v x) (value_for L v x)),
     all_quiet (refusals L v x) (Done (ground_for v x) (value_for L v x)),
   );
-  refused = λ q e. least (refusals L v x) (Done (ground_for v x) (value_for L v x)) q (rise L v x) e (λ z. false≢true cc);
+  refused = λ q e. least (refusals L v x) (Done (ground_for v x) (value_for L v x)) q (rise L v x) e
+      (λ z. false≢true cc);
 }

@@ -259,7 +259,8 @@ module _ (L : Limits) (w : View) (o p n u : ℕ) (r : Receiver) (g : Ground) (v 
             (or-false_r (missing (running_app w n)) (no_receiving_instance w r) (c NoSuchInstance));
       }
     where
-      there : (r : Receiver) → no_receiving_app w r ≡ false → no_receiving_instance w r ≡ false → receiver_there w r ≡ true
+      there : (r : Receiver) → no_receiving_app w r ≡ false → no_receiving_instance w r ≡ false → receiver_there w r
+          ≡ true
       there (an_instance m) a i = unfold receiver_there in here (running_app w m) (unfold no_receiving_instance in i)
       there (an_app b) a i = unfold receiver_there in here (w.app b) (unfold no_receiving_app in a)
 

@@ -32,7 +32,8 @@ module _ (v : View) (n : ℕ) (a : App) (k : Part) (u : ℕ) (op : Op) where
       (v.lent (an_app a.number) k.component.number u op)
     where
       go : (g : Ground) (s t : Bool)
-          → is_ground (cond (is_ground g) g (cond s LoanToInstance (cond t LoanToApp Nothing))) ≡ is_ground g || (s || t)
+          → is_ground (cond (is_ground g) g (cond s LoanToInstance (cond t LoanToApp Nothing)))
+          ≡ is_ground g || (s || t)
       go Nothing true t = refl
       go Nothing false true = refl
       go Nothing false false = refl

@@ -1,5 +1,6 @@
 -- Each action's refusals, in rising order: document 01, "Conditions and effects" and "Numbers that come back".
-use Rattle.std.specs.Prelude.{ℕ, zero, suc, ◌+◌, Bool, true, false, not, ◌&&◌, ◌||◌, List, [], ◌∷◌, length, eqb, leb, ltb}
+use Rattle.std.specs.Prelude.{ℕ, zero, suc, ◌+◌, Bool, true, false, not, ◌&&◌, ◌||◌, List, [], ◌∷◌, length, eqb, leb}
+use Rattle.std.specs.Prelude.{ltb}
 use Rattle.std.proofs.Math.Option.{Option}
 use Rattle.manifest.specs.Layout.{Manifest}
 use Rattle.manifest.specs.Good.{good}

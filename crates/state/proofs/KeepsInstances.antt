@@ -18,7 +18,8 @@ use Rattle.rules.specs.ListsLaws.{all_append, all-mono, all_keep, all-mem, mem-a
 use Rattle.rules.specs.ListsLaws.{found}
 use Rattle.rules.specs.UptoLaws.{within, among-upto}
 use Rattle.rules.specs.Limits.{Limits}
-use Rattle.rules.specs.Action.{install, uninstall, start, stop, Action, on_apps, on_grants, on_runs, write, on_loans, query}
+use Rattle.rules.specs.Action.{install, uninstall, start, stop, Action, on_apps, on_grants, on_runs, write, on_loans}
+use Rattle.rules.specs.Action.{query}
 use Rattle.rules.specs.Refusals.{is_running}
 use Rattle.rules.specs.Answer.{answer}
 use Rattle.rules.specs.DoneLaws.{uninstall-idle, start-part}

@@ -108,7 +108,8 @@ ended ks (query z) x = false
 -- every other stays what it has to be
 module _ (s : State) (v : ℕ) (k : Loan) (ok : LoanOk s k) where
   outlasts-app : (b : ℕ) → ends_with s.parts b k ≡ false → LoanOk (next s (on_apps (uninstall b)) v) k
-  unfolding next apps_after instances_after parts_after resources_after ends_with is_to receiver_kind receiver_number keep_grants
+  unfolding next apps_after instances_after parts_after resources_after ends_with is_to receiver_kind receiver_number
+      keep_grants
   outlasts-app b n = record {
     live = live-still s (next s (on_apps (uninstall b)) v) k
         (λ _ e. e)

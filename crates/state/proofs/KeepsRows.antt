@@ -72,7 +72,8 @@ module _ (rs : List Row) (ok : RowsOk rs) where
     where
       still : (t : Row → Bool) → ((r : Row) → t r ≡ true → t (keep_grants f r) ≡ true) → all t rs ≡ true
           → all t (map (keep_grants f) (keep q rs)) ≡ true
-      still t h a = all_map t (keep_grants f) (keep q rs) ∙ all_keep t (λ r. t (keep_grants f r)) q (λ r e _. h r e) rs a
+      still t h a = all_map t (keep_grants f) (keep q rs)
+          ∙ all_keep t (λ r. t (keep_grants f r)) q (λ r e _. h r e) rs a
 
   module _ (b : ℕ) (f : List ℕ → List ℕ) where
     grants-changed : ((r : Row) → Memᴰ r rs → eqb (app_number r) b ≡ true → distinct eqb r.grants ≡ true

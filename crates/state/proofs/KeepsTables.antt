@@ -12,7 +12,8 @@ use Rattle.std.proofs.Math.Option.{Option, none, some}
 use Rattle.std.proofs.Math.Dec.{eqb, ltb}
 use borrow.Author.Tests.{eqb-true, not-true}
 use Rattle.manifest.specs.Layout.{Manifest}
-use Rattle.manifest.specs.Good.{good, at_most, good_define, defines_rise, good_component, components_rise, good_resource}
+use Rattle.manifest.specs.Good.{good, at_most, good_define, defines_rise, good_component, components_rise}
+use Rattle.manifest.specs.Good.{good_resource}
 use Rattle.manifest.specs.Good.{resource_key, resources_rise}
 use Rattle.manifest.specs.GoodLaws.{and_parts, GoodParts, good-parts, all_above}
 use Rattle.manifest.specs.declared.Resource.{Resource}

@@ -23,14 +23,16 @@ use Rattle.rules.specs.ListsLaws.{any_append, any-map, any-keep, any-cong, any-m
 use Rattle.rules.specs.ListsLaws.{any-split, all_append, all_map, all-mono, all_keep, keep-map, keep-passes, none-mem}
 use Rattle.rules.specs.ListsLaws.{none_any, find-any, map-map, map-append, distinct-keep, distinct-one, distinct-map}
 use Rattle.rules.specs.Limits.{Limits}
-use Rattle.rules.specs.Action.{Receiver, Op, reading, writing, carries, operations_of, is_operations, install, uninstall}
+use Rattle.rules.specs.Action.{Receiver, Op, reading, writing, carries, operations_of, is_operations, install}
+use Rattle.rules.specs.Action.{uninstall}
 use Rattle.rules.specs.Action.{grant, revoke, grant_group, revoke_group, start, stop, lend, withdraw, Action, on_apps}
 use Rattle.rules.specs.Action.{on_grants, on_runs, write, on_loans, query}
 use Rattle.rules.specs.ActionLaws.{carries-those, operations-if-any}
 use Rattle.rules.specs.View.{App, app_of, part_of}
 use Rattle.rules.specs.Answer.{answer}
 use Rattle.rules.specs.DoneLaws.{install-good, provided, start-free, start-range, lends_some}
-use Rattle.state.specs.Tables.{Row, State, apps_of, part_at, owned_by, defined_by, run_in, is_to, is_on, is_loan, lent_in}
+use Rattle.state.specs.Tables.{Row, State, apps_of, part_at, owned_by, defined_by, run_in, is_to, is_on, is_loan}
+use Rattle.state.specs.Tables.{lent_in}
 use Rattle.state.specs.Tables.{view_of}
 use Rattle.state.specs.Effects.{grants_at, groups_at, keep_grants, apps_after, parts_after, put, resources_after}
 use Rattle.state.specs.Effects.{instances_after, loan_of, with_operations, kept, carries_any, reduce, widened}
@@ -237,7 +239,8 @@ reduced-distinct keeps ls d = distinct-keep same_loan carries_any (map (kept kee
     (distinct-map same_loan (kept keeps) (λ x y. refl) ls ∙ d)
 
 lent-distinct : (ls : List Loan) (o p u : ℕ) (r : Receiver) → distinct same_loan ls ≡ true
-    → distinct same_loan (cond (any (is_loan r p u) ls) (map (widened r p u o) ls) (ls ++ (loan_of r p u o ∷ []))) ≡ true
+    → distinct same_loan (cond (any (is_loan r p u) ls) (map (widened r p u o) ls) (ls ++ (loan_of r p u o ∷ [])))
+    ≡ true
 unfolding is_loan is_to is_on loan_of widened with_operations
 lent-distinct ls o p u r d = go (any (is_loan r p u) ls) refl
   where

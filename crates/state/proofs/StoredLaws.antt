@@ -1,6 +1,7 @@
 -- The arrays that hold a state give the state back, for every state; those of a valid state are stored as they have to
 -- be; and the ones of the running numbers count the instances.
-use Rattle.std.specs.Prelude.{ℕ, zero, suc, ◌+◌, ◌-◌, ◌*◌, ◌/◌, ◌%◌, ◌≤◌, ◌≡◌, Bool, true, false, ◌&&◌, cond, length, take, replicate, eqb, leb}
+use Rattle.std.specs.Prelude.{ℕ, zero, suc, ◌+◌, ◌-◌, ◌*◌, ◌/◌, ◌%◌, ◌≤◌, ◌≡◌, Bool, true, false, ◌&&◌, cond, length}
+use Rattle.std.specs.Prelude.{take, replicate, eqb, leb}
 use Rattle.std.proofs.Math.Path.{refl}
 use Rattle.std.proofs.Common.{sym, ap, subst, ◌∙◌, length-append, arith, eq-eqb, le-leb}
 use mathlib.Core.List.{List, [], ◌∷◌, map, Memᴰ}

@@ -10,7 +10,8 @@ use Rattle.rules.specs.declared.Answer.{Answer}
 use Rattle.rules.specs.declared.Answer.TheVariants.{Done, Refused}
 use Rattle.rules.specs.Lists.{any, keep}
 use Rattle.rules.specs.Limits.{Limits}
-use Rattle.rules.specs.Action.{Receiver, an_instance, an_app, receiver_kind, receiver_number, Op, reading, writing, carries}
+use Rattle.rules.specs.Action.{Receiver, an_instance, an_app, receiver_kind, receiver_number, Op, reading, writing}
+use Rattle.rules.specs.Action.{carries}
 use Rattle.rules.specs.Action.{operations_of, install, uninstall, grant, revoke, grant_group, revoke_group, start, stop}
 use Rattle.rules.specs.Action.{lend, withdraw, Action, on_apps, on_grants, on_runs, write, on_loans, query}
 use Rattle.rules.specs.View.{app_of, part_of, definition_of}

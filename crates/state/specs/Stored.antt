@@ -1,6 +1,7 @@
 -- How the device's arrays and the lent table hold the lists: document 01, "Conditions and effects" ("Places past the
 -- end are zero") and "A valid state" ("unused places are zero, the lent table has 128 records").
-use Rattle.std.specs.Prelude.{ℕ, zero, suc, ◌+◌, ◌-◌, ◌*◌, Bool, false, not, ◌&&◌, List, ◌++◌, map, length, take, drop, replicate, eqb, leb}
+use Rattle.std.specs.Prelude.{ℕ, zero, suc, ◌+◌, ◌-◌, ◌*◌, Bool, false, not, ◌&&◌, List, ◌++◌, map, length, take, drop}
+use Rattle.std.specs.Prelude.{replicate, eqb, leb}
 pub use Rattle.manifest.specs.Verdict.{zero_define, zero_component, zero_resource}
 use Rattle.manifest.specs.declared.Component.{Component}
 use Rattle.manifest.specs.declared.Resource.{Resource}

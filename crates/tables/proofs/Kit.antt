@@ -5,8 +5,7 @@ pub use mathlib.Core.Bool.{true, not, ◌&&◌, cond}
 pub use mathlib.Core.List.{List, [], ◌∷◌}
 pub use mathlib.Core.Option.{Option, none}
 pub use native.Mathlib.Omega.{arith}
-pub use borrow.Author.Rules.{rules}
-pub use borrow.Author.Tests.{eq-eqb, ne_eqb, le-leb, lt-leb, not-true, not-false}
+pub use borrow.Author.Tests.{eq-eqb, ne_eqb, le-leb, lt-leb}
 pub use lib.ListN.{take, get_or, set}
 pub use Rattle.tables.proofs.Sizes.{apps-long, definitions-long, parts-long, resources-long, instances-long}
 pub use Rattle.tables.proofs.Sizes.{grants-long, groups-long}

@@ -1,7 +1,11 @@
 -- Loops that change an array in place: one record as the invariant, one law for each place of the loop.
-use Rattle.std.specs.Prelude.{ℕ, suc, ◌+◌, ◌-◌, ◌≤◌, ◌<◌, ◌≡◌, refl, Bool, true, false, List, [], ◌∷◌, ◌++◌, map, length, take, drop, get_or, set, replicate}
-use Rattle.std.proofs.Common.{sym, ap, ◌∙◌, append_assoc, append-nil, add-one, arith, length-append, length-take, length-set, take-append-drop, drop_of_length-le, drop-cons, length-take-le, get_or-drop, take-suc-set, drop-set-lt, drop-drop}
-use Rattle.std.proofs.lemmas.List.{map-append, length-replicate, length-map, replicate-append-replicate, set_at, get_or_at}
+use Rattle.std.specs.Prelude.{ℕ, suc, ◌+◌, ◌-◌, ◌≤◌, ◌<◌, ◌≡◌, refl, Bool, true, false, List, [], ◌∷◌, ◌++◌, map}
+use Rattle.std.specs.Prelude.{length, take, drop, get_or, set, replicate}
+use Rattle.std.proofs.Common.{sym, ap, ◌∙◌, append_assoc, append-nil, add-one, arith, length-append, length-take}
+use Rattle.std.proofs.Common.{length-set, take-append-drop, drop_of_length-le, drop-cons, length-take-le, get_or-drop}
+use Rattle.std.proofs.Common.{take-suc-set, drop-set-lt, drop-drop}
+use Rattle.std.proofs.lemmas.List.{map-append, length-replicate, length-map, replicate-append-replicate, set_at}
+use Rattle.std.proofs.lemmas.List.{get_or_at}
 use Rattle.std.proofs.Math.Seq.{take-suc}
 use Rattle.rules.specs.Lists.{keep}
 use Rattle.rules.specs.ListsLaws.{keep_append}
@@ -51,7 +55,8 @@ module _ {A : Type 0} {f : A → Bool} {l : List A} {b i k : ℕ} {e : List A} (
   after : drop (i + 1) e ≡ drop (i + 1) l
   after = cc (drop-drop 1 i e, drop-drop 1 i l, s.back)
 
-  pub squeezed-keep : i < b → (d : A) → f (get_or e i d) ≡ true → Squeezed f l b (i + 1) (k + 1) (set e k (get_or e i d))
+  pub squeezed-keep : i < b → (d : A) → f (get_or e i d) ≡ true
+      → Squeezed f l b (i + 1) (k + 1) (set e k (get_or e i d))
   squeezed-keep h d q =
       let g : f (get_or l i d) ≡ true = rw (read d) at q in
       let m = keep-more f l i d (omega (arith, s.room)) g in

@@ -1,5 +1,6 @@
 -- What the changes make of a table that holds a list, zero past its end: the table of the changed list.
-use Rattle.std.specs.Prelude.{ℕ, suc, ◌+◌, ◌-◌, ◌<◌, ◌≡◌, Bool, true, not, ◌||◌, cond, length, take, set, replicate, eqb, ltb}
+use Rattle.std.specs.Prelude.{ℕ, suc, ◌+◌, ◌-◌, ◌<◌, ◌≡◌, Bool, true, not, ◌||◌, cond, length, take, set, replicate}
+use Rattle.std.specs.Prelude.{eqb, ltb}
 use Rattle.std.proofs.Math.Path.{refl, ap₂}
 use Rattle.std.proofs.Common.{sym, arith, ltb-true, length-append}
 use Rattle.std.proofs.Math.Bool.{false}
@@ -171,7 +172,8 @@ grant-one m r h =
     (cc (padded-more 0 32 r.grants m h, length_more 0 32 r.grants m))
 
 pub grant-added : (rs : List Row) (b m : ℕ) → all (room_for_grant b) rs ≡ true
-    → change_app (apps_table (map app_from rs)) b AddGrant m ≡ apps_table (map app_from (map (grants_at b (added m)) rs))
+    → change_app (apps_table (map app_from rs)) b AddGrant m
+    ≡ apps_table (map app_from (map (grants_at b (added m)) rs))
 unfolding change_app
 grant-added rs b m h =
     apps-mapped (changed_at b AddGrant m) (grants_at b (added m)) rs
@@ -183,11 +185,13 @@ grant-added rs b m h =
     go r true e = grant-one m r (ltb-true (length r.grants) 32 e)
     go r false e = unfold row-grants in refl
 
-    one : (r : Row) → room_for_grant b r ≡ true → changed_at b AddGrant m (app_from r) ≡ app_from (grants_at b (added m) r)
+    one : (r : Row) → room_for_grant b r ≡ true → changed_at b AddGrant m (app_from r)
+        ≡ app_from (grants_at b (added m) r)
     one r e = unfold changed_at changed grants_at row-grants in go r (eqb (app_number r) b) e
 
 pub grant-taken : (rs : List Row) (b m : ℕ)
-    → change_app (apps_table (map app_from rs)) b TakeGrant m ≡ apps_table (map app_from (map (grants_at b (taken m)) rs))
+    → change_app (apps_table (map app_from rs)) b TakeGrant m
+    ≡ apps_table (map app_from (map (grants_at b (taken m)) rs))
 unfolding change_app
 grant-taken rs b m =
     apps-mapped (changed_at b TakeGrant m) (grants_at b (taken m)) rs
@@ -209,7 +213,8 @@ group-one m r h =
     (cc (padded-more 0 15 r.groups m h, length_more 0 15 r.groups m))
 
 pub group-added : (rs : List Row) (b m : ℕ) → all (room_for_group b) rs ≡ true
-    → change_app (apps_table (map app_from rs)) b AddGroup m ≡ apps_table (map app_from (map (groups_at b (added m)) rs))
+    → change_app (apps_table (map app_from rs)) b AddGroup m
+    ≡ apps_table (map app_from (map (groups_at b (added m)) rs))
 unfolding change_app
 group-added rs b m h =
     apps-mapped (changed_at b AddGroup m) (groups_at b (added m)) rs
@@ -221,11 +226,13 @@ group-added rs b m h =
     go r true e = group-one m r (ltb-true (length r.groups) 15 e)
     go r false e = unfold row-groups in refl
 
-    one : (r : Row) → room_for_group b r ≡ true → changed_at b AddGroup m (app_from r) ≡ app_from (groups_at b (added m) r)
+    one : (r : Row) → room_for_group b r ≡ true → changed_at b AddGroup m (app_from r)
+        ≡ app_from (groups_at b (added m) r)
     one r e = unfold changed_at changed groups_at row-groups in go r (eqb (app_number r) b) e
 
 pub group-taken : (rs : List Row) (b m : ℕ)
-    → change_app (apps_table (map app_from rs)) b TakeGroup m ≡ apps_table (map app_from (map (groups_at b (taken m)) rs))
+    → change_app (apps_table (map app_from rs)) b TakeGroup m
+    ≡ apps_table (map app_from (map (groups_at b (taken m)) rs))
 unfolding change_app
 group-taken rs b m =
     apps-mapped (changed_at b TakeGroup m) (groups_at b (taken m)) rs

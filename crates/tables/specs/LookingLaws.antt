@@ -37,7 +37,8 @@ blank_app =
       grouped = 0;
     }
 
-same-search : (l : List App) (n : ℕ) → app_at (apps_of (map row_of l)) n ≡ map_option (λ a. (row_of a).app) (find (is_app n) l)
+same-search : (l : List App) (n : ℕ) → app_at (apps_of (map row_of l)) n
+    ≡ map_option (λ a. (row_of a).app) (find (is_app n) l)
 unfolding app_at
 same-search l n = rw (map-map (λ r. r.app) row_of l) (find-map (λ a. eqb a.number n) (λ a. (row_of a).app) l)
 

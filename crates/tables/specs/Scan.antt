@@ -1,5 +1,6 @@
 -- A loop over the places from i up to b of an array: one record as the invariant, one law for each place of the loop.
-use Rattle.std.specs.Prelude.{ℕ, ◌+◌, ◌≤◌, ◌<◌, min, ◌≡◌, refl, Bool, true, false, List, [], ◌∷◌, length, take, drop, get_or, ltb}
+use Rattle.std.specs.Prelude.{ℕ, ◌+◌, ◌≤◌, ◌<◌, min, ◌≡◌, refl, Bool, true, false, List, [], ◌∷◌, length, take, drop}
+use Rattle.std.specs.Prelude.{get_or, ltb}
 use Rattle.std.proofs.Math.Path.{sym}
 use Rattle.std.proofs.Common.{◌∙◌, add-one, arith, ltb-true, ltb-false, drop_of_length-le, length-take-le, take_all}
 use Rattle.std.proofs.Math.Seq.{slice, slice-cons}

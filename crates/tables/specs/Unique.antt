@@ -24,7 +24,8 @@ use Rattle.rules.specs.Lists.{any, keep, mem}
 use Rattle.rules.specs.Permissions.{built_in, known, hold, holds, allows}
 use Rattle.rules.specs.Grounds.{right_ground}
 use Rattle.state.specs.Stored.{row_of}
-use Rattle.state.specs.Tables.{apps_of, is_resource, owned_by, defined_by, known_from, defined_in, granted_in, grouped_in}
+use Rattle.state.specs.Tables.{apps_of, is_resource, owned_by, defined_by, known_from, defined_in, granted_in}
+use Rattle.state.specs.Tables.{grouped_in}
 use Rattle.tables.specs.Held.{apps_in, rows_in, definitions_in, parts_in, resources_in, instances_in}
 use Rattle.tables.specs.Held.{apps_table, definitions_table, parts_table, resources_table}
 use Rattle.tables.specs.Finding.{place_of, is_app, is_part, is_definition, is_instance}
@@ -44,7 +45,8 @@ find-part-only parts number = only_one (place_of (is_part number) (parts_in part
 pub find-definition-only : (definitions : Definitions) (permission : ℕ) (r r' : Place)
     → r ≡ place_of (is_definition permission) (definitions_in definitions)
     → r' ≡ place_of (is_definition permission) (definitions_in definitions) → r ≡ r'
-find-definition-only definitions permission = only_one (place_of (is_definition permission) (definitions_in definitions))
+find-definition-only definitions permission =
+    only_one (place_of (is_definition permission) (definitions_in definitions))
 
 pub find-instance-only : (instances : Instances) (number : ℕ) (r r' : Place)
     → r ≡ place_of (is_instance number) (instances_in instances)
@@ -173,7 +175,8 @@ remove-parts-only parts app = only_one (parts_table (keep (λ k. not (eqb k.app 
 
 pub remove-resources-only : (resources : Resources) (parts : Parts) (app : ℕ) (r r' : Resources)
     → r ≡ resources_table (keep (λ x. not (owned_by (parts_in parts) app x.provider)) (resources_in resources))
-    → r' ≡ resources_table (keep (λ x. not (owned_by (parts_in parts) app x.provider)) (resources_in resources)) → r ≡ r'
+    → r' ≡ resources_table (keep (λ x. not (owned_by (parts_in parts) app x.provider)) (resources_in resources)) → r
+    ≡ r'
 remove-resources-only resources parts app =
     only_one (resources_table (keep (λ x. not (owned_by (parts_in parts) app x.provider)) (resources_in resources)))
 

@@ -14,7 +14,8 @@ use Rattle.rules.specs.declared.Reason.TheVariants.{PartOfTheImage, NoRoom}
 use Rattle.rules.specs.declared.Answer.{Answer}
 use Rattle.rules.specs.declared.Answer.TheVariants.{Done, Refused}
 use Rattle.rules.specs.Answer.{number_of, ground_number, line_of}
-use Rattle.history.specs.Sheet.{digits_within, decimal, field, field_or_none, answer_text, line_text, end_text, running_text}
+use Rattle.history.specs.Sheet.{digits_within, decimal, field, field_or_none, answer_text, line_text, end_text}
+use Rattle.history.specs.Sheet.{running_text}
 use Rattle.history.specs.Sheet.{lent_text}
 use Rattle.history.specs.Run.{counts_text}
 use Rattle.tape.specs.Written.{Written}

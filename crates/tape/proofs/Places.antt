@@ -121,7 +121,8 @@ module _ {s : List ℕ} {at : ℕ} (p : Passed s (manifest_count s) at) where
 
 -- ---- in a tape
 module _ (s : List ℕ) where
-  pub place-there : {at n : ℕ} (k : ℕ) → at ≡ manifest_place s k → n ≡ u16_at s at → at + 2 + n ≡ manifest_place s (k + 1)
+  pub place-there : {at n : ℕ} (k : ℕ) → at ≡ manifest_place s k → n ≡ u16_at s at → at + 2 + n
+      ≡ manifest_place s (k + 1)
   place-there {at} {n} k e f =
       let g : n ≡ manifest_length s k = f ∙ ap (u16_at s) e in
       omega (arith, e, g, place-next s k)

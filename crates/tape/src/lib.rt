@@ -4,7 +4,8 @@
 ghost use Rattle.std.specs.Prelude.{◌≡◌, ◌+◌, ◌*◌, ◌≤◌, ◌<◌, length, replicate};
 ghost use Rattle.manifest.specs.Layout.{u16_at};
 ghost use Rattle.state.specs.Tables.{fresh};
-ghost use Rattle.state.specs.Stored.{zero_app, zero_definition, zero_part, zero_resource, zero_instance, zero_loan, device_of};
+ghost use Rattle.state.specs.Stored.{zero_app, zero_definition, zero_part, zero_resource, zero_instance, zero_loan};
+ghost use Rattle.state.specs.Stored.{device_of};
 ghost use Rattle.history.specs.Tape.{manifest_count, manifest_place};
 ghost use Rattle.history.specs.Sheet.{decimal, field, refused_text, answer_text, line_text, sheet};
 ghost use Rattle.history.specs.Run.{monitor_steps, counts_text, run_text};
@@ -220,7 +221,7 @@ fn put_refused(out: &mut [u8]) -> Wrote
 // The lines of the n actions of a tape at a fresh device, and the last line.
 fn put_run(tape: &[u8], p: usize, n: usize, out: &mut [u8], from: usize) -> usize
     requires tape_at { TapeAt tape.now p × ((p + 2 + 12 * n ≤ length tape.now) × (n ≤ 2048)) }
-    requires n_in_bounds { from + 24 * n + 85 ≤ length out.old }
+    requires room { from + 24 * n + 85 ≤ length out.old }
     ensures written { Written out.old from (run_text monitor_steps tape.now n)
         out.new result }
     ensures upper_bound { result ≤ from + 24 * n + 85 }
@@ -242,7 +243,7 @@ fn put_lines(
     from: usize,
 ) -> Lines
     requires tape_at { TapeAt tape.now p × ((p + 2 + 12 * n ≤ length tape.now) × (n ≤ 2048)) }
-    requires n_in_bounds { from + 24 * n ≤ length out.old }
+    requires room { from + 24 * n ≤ length out.old }
     ensures ran_at { RanAt tape.now (held_by device table) out.old from n
         (held_by result.device result.lent) out.new result.end }
     ensures end_bound { result.end ≤ from + 24 * n }

@@ -90,8 +90,8 @@ fn length_of(low: u8, high: u8) -> usize
 
 // The reader answers 0 or 3. A `?` on a line would say that the compiled one does not.
 fn digit_of(answer: u32) -> u8
-    ensures value { answer ≡ 0 → result ≡ 48 }
-    ensures value_2 { answer ≡ 3 → result ≡ 51 }
+    ensures good { answer ≡ 0 → result ≡ 48 }
+    ensures malformed { answer ≡ 3 → result ≡ 51 }
 {
     match answer {
         0 => b'0',

@@ -39,8 +39,9 @@ stored c = stored-found _ _ (sym c.value_of-stored.ensures ∙ c.in-Value.is)
 pub returns-then-is_ground : goal.returns-then-is_ground
 unfolding access_in ground_of
 returns-then-is_ground c =
-    let o = opened (goal.at.returns-then-is_ground c).In-By in
-    let s = stored (goal.at.returns-then-is_ground c).In-Value in
+    let path = goal.at.returns-then-is_ground c in
+    let o = opened path.In-By in
+    let s = stored path.In-Value in
     done-as _ _ _ _ o.ground s ∙ ends
     ∙ passes _ _ _ (unground _ _ o.ground c.is_ground.ensures) (ap not c.if-is_ground.true)
     ∙ passes _ _ _ refl (there s) ∙ passes _ _ _ refl o.instance ∙ passes _ _ _ refl o.provider
@@ -48,6 +49,7 @@ returns-then-is_ground c =
 pub returns-else-is_ground : goal.returns-else-is_ground
 unfolding access_in ground_of
 returns-else-is_ground c =
-    let o = opened (goal.at.returns-else-is_ground c).In-By in
+    let path = goal.at.returns-else-is_ground c in
+    let o = opened path.In-By in
     refuses _ _ _ (unground _ _ o.ground c.is_ground.ensures) (ap not c.if-is_ground.false)
-    ∙ passes _ _ _ refl (there (stored (goal.at.returns-else-is_ground c).In-Value)) ∙ passes _ _ _ refl o.instance ∙ passes _ _ _ refl o.provider
+    ∙ passes _ _ _ refl (there (stored path.In-Value)) ∙ passes _ _ _ refl o.instance ∙ passes _ _ _ refl o.provider

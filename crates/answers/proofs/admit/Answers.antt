@@ -19,16 +19,20 @@ whole c = ap (admit (view_in c.args.d [])) (sym (sections c).whole)
 
 pub returns-then-clashes : goal.returns-then-clashes
 unfolding admit
-returns-then-clashes c = refuses _ _ _ c.clashes.ensures c.if-clashes.true ∙ whole (goal.at.returns-then-clashes c).Start
+returns-then-clashes c =
+    let path = goal.at.returns-then-clashes c in
+    refuses _ _ _ c.clashes.ensures c.if-clashes.true ∙ whole path.Start
 
 pub returns-then-is_crowded : goal.returns-then-is_crowded
 unfolding admit view_of model_of
 returns-then-is_crowded c =
-    refuses _ _ _ (c.is_crowded.ensures ∙ sym (crowded-is (sections (goal.at.returns-then-is_crowded c).Start) _)) c.if-is_crowded.true
-    ∙ passes _ _ _ c.clashes.ensures c.if-clashes.false ∙ whole (goal.at.returns-then-is_crowded c).Start
+    let path = goal.at.returns-then-is_crowded c in
+    refuses _ _ _ (c.is_crowded.ensures ∙ sym (crowded-is (sections path.Start) _)) c.if-is_crowded.true
+    ∙ passes _ _ _ c.clashes.ensures c.if-clashes.false ∙ whole path.Start
 
 pub returns : goal.returns
 unfolding admit view_of model_of
 returns c =
-    ends ∙ passes _ _ _ (c.is_crowded.ensures ∙ sym (crowded-is (sections (goal.at.returns c).Start) _)) c.if-is_crowded.false
-    ∙ passes _ _ _ c.clashes.ensures c.if-clashes.false ∙ whole (goal.at.returns c).Start
+    let path = goal.at.returns c in
+    ends ∙ passes _ _ _ (c.is_crowded.ensures ∙ sym (crowded-is (sections path.Start) _)) c.if-is_crowded.false
+    ∙ passes _ _ _ c.clashes.ensures c.if-clashes.false ∙ whole path.Start

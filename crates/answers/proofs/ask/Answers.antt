@@ -27,7 +27,9 @@ past-1 c = passes _ _ _ c.no_app.ensures c.if-no_app.false
 
 pub returns-then-undefined : goal.returns-then-undefined
 unfolding Past
-returns-then-undefined c = refuses _ _ _ c.undefined.ensures c.if-undefined.true ∙ past-1 (goal.at.returns-then-undefined c).Else-no_app
+returns-then-undefined c =
+    let path = goal.at.returns-then-undefined c in
+    refuses _ _ _ c.undefined.ensures c.if-undefined.true ∙ past-1 path.Else-no_app
 
 past-2 : (c : Else-undefined) → Past 2 (search)
 unfolding Past
@@ -36,9 +38,11 @@ past-2 c = passes _ _ _ c.undefined.ensures c.if-undefined.false ∙ past-1 (sea
 pub returns-then-held_by : goal.returns-then-held_by
 unfolding Past
 returns-then-held_by c =
-    ap (λ t. Done Nothing (bit t)) (sym c.if-held_by.true ∙ c.held_by.ensures) ∙ ends ∙ past-2 (goal.at.returns-then-held_by c).Else-undefined
+    let path = goal.at.returns-then-held_by c in
+    ap (λ t. Done Nothing (bit t)) (sym c.if-held_by.true ∙ c.held_by.ensures) ∙ ends ∙ past-2 path.Else-undefined
 
 pub returns : goal.returns
 unfolding Past
 returns c =
-    ap (λ t. Done Nothing (bit t)) (sym c.if-held_by.false ∙ c.held_by.ensures) ∙ ends ∙ past-2 (goal.at.returns c).Else-undefined
+    let path = goal.at.returns c in
+    ap (λ t. Done Nothing (bit t)) (sym c.if-held_by.false ∙ c.held_by.ensures) ∙ ends ∙ past-2 path.Else-undefined

@@ -27,20 +27,24 @@ pub permissions_taken-requires : goal.permissions_taken-requires
 permissions_taken-requires c = defines-fit (sections (goal.at.permissions_taken-requires c).Start)
 
 pub returns-then-has_app : goal.returns-then-has_app
-returns-then-has_app c = sym (clash-is (sections (goal.at.returns-then-has_app c).Start) _ ∙ rw (sym (taken (goal.at.returns-then-has_app c).After-has_app) ∙ c.if-has_app.true))
+returns-then-has_app c =
+    let path = goal.at.returns-then-has_app c in
+    sym (clash-is (sections path.Start) _ ∙ rw (sym (taken path.After-has_app) ∙ c.if-has_app.true))
 
 pub returns-then-components_taken : goal.returns-then-components_taken
 unfolding view_of model_of
 returns-then-components_taken c =
-    sym (clash-is (sections (goal.at.returns-then-components_taken c).Start) _ ∙ rw (
-      sym (taken (goal.at.returns-then-components_taken c).After-has_app) ∙ c.if-has_app.false,
+    let path = goal.at.returns-then-components_taken c in
+    sym (clash-is (sections path.Start) _ ∙ rw (
+      sym (taken path.After-has_app) ∙ c.if-has_app.false,
       sym c.components_taken.ensures ∙ c.if-components_taken.true,
     ))
 
 pub returns : goal.returns
 unfolding known view_by view_of model_of
 returns c =
-    c.permissions_taken.ensures ∙ sym (clash-is (sections (goal.at.returns c).Start) _ ∙ rw (
-      sym (taken (goal.at.returns c).After-has_app) ∙ c.if-has_app.false,
+    let path = goal.at.returns c in
+    c.permissions_taken.ensures ∙ sym (clash-is (sections path.Start) _ ∙ rw (
+      sym (taken path.After-has_app) ∙ c.if-has_app.false,
       sym c.components_taken.ensures ∙ c.if-components_taken.false,
     ))

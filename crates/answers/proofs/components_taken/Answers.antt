@@ -20,17 +20,19 @@ entry c =
 
 pub returns-then-has_part : goal.returns-then-has_part
 returns-then-has_part c =
+    let path = goal.at.returns-then-has_part c in
     sym (c.loop-left.invariant.1
-    ∙ any_here _ 8 _ _ _ c.loop-left-test.true (entry (goal.at.returns-then-has_part c).After-component_at-c) (c.has_part.ensures ∙ part-here _ _)
+    ∙ any_here _ 8 _ _ _ c.loop-left-test.true (entry path.After-component_at-c) (c.has_part.ensures ∙ part-here _ _)
     c.if-has_part.true)
 
 pub loop-left-preserved : goal.loop-left-preserved
-loop-left-preserved c = (
-  omega arith,
-  c.loop-left.invariant.1
-      ∙ any-on _ 8 _ _ _ c.loop-left-test.true (entry (goal.at.loop-left-preserved c).After-component_at-c) (c.has_part.ensures ∙ part-here _ _)
-      c.if-has_part.false,
-)
+loop-left-preserved c =
+    let path = goal.at.loop-left-preserved c in (
+      omega arith,
+      c.loop-left.invariant.1
+          ∙ any-on _ 8 _ _ _ c.loop-left-test.true (entry path.After-component_at-c)
+          (c.has_part.ensures ∙ part-here _ _) c.if-has_part.false,
+    )
 
 pub returns : goal.returns
 returns c = sym (c.loop-left.invariant.1 ∙ any_none _ 8 _ _ _ c.loop-left-test.false)

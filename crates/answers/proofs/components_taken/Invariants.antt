@@ -13,7 +13,8 @@ taken parts c = is_some (part_at (parts_in parts) c.number)
 abbrev pub invariant-loop-left : goal.invariant-loop-left
 invariant-loop-left l =
     (l.i + 8 * l.left ≡ l.first + 8 * l.count)
-    × (any (taken l.parts) (entries (component_at l.bytes) 8 l.first l.count) ≡ any (taken l.parts) (entries (component_at l.bytes) 8 l.i l.left))
+    × (any (taken l.parts) (entries (component_at l.bytes) 8 l.first l.count)
+    ≡ any (taken l.parts) (entries (component_at l.bytes) 8 l.i l.left))
 
 abbrev pub decreases-loop-left : goal.decreases-loop-left
 decreases-loop-left l = l.left

@@ -25,7 +25,9 @@ past-1 c = passes _ _ _ c.granted.ensures c.if-granted.false
 
 pub returns-then-no_app : goal.returns-then-no_app
 unfolding Past
-returns-then-no_app c = refuses _ _ _ c.no_app.ensures c.if-no_app.true ∙ past-1 (goal.at.returns-then-no_app c).Else-granted
+returns-then-no_app c =
+    let path = goal.at.returns-then-no_app c in
+    refuses _ _ _ c.no_app.ensures c.if-no_app.true ∙ past-1 path.Else-granted
 
 past-2 : (c : Else-no_app) → Past 2 (search)
 unfolding Past
@@ -33,7 +35,9 @@ past-2 c = passes _ _ _ c.no_app.ensures c.if-no_app.false ∙ past-1 (search)
 
 pub returns-then-undefined : goal.returns-then-undefined
 unfolding Past
-returns-then-undefined c = refuses _ _ _ c.undefined.ensures c.if-undefined.true ∙ past-2 (goal.at.returns-then-undefined c).Else-no_app
+returns-then-undefined c =
+    let path = goal.at.returns-then-undefined c in
+    refuses _ _ _ c.undefined.ensures c.if-undefined.true ∙ past-2 path.Else-no_app
 
 past-3 : (c : Else-undefined) → Past 3 (search)
 unfolding Past
@@ -41,8 +45,12 @@ past-3 c = passes _ _ _ c.undefined.ensures c.if-undefined.false ∙ past-2 (sea
 
 pub returns-then-not_grantable : goal.returns-then-not_grantable
 unfolding Past
-returns-then-not_grantable c = refuses _ _ _ c.not_grantable.ensures c.if-not_grantable.true ∙ past-3 (goal.at.returns-then-not_grantable c).Else-undefined
+returns-then-not_grantable c =
+    let path = goal.at.returns-then-not_grantable c in
+    refuses _ _ _ c.not_grantable.ensures c.if-not_grantable.true ∙ past-3 path.Else-undefined
 
 pub returns : goal.returns
 unfolding Past
-returns c = ends ∙ passes _ _ _ c.not_grantable.ensures c.if-not_grantable.false ∙ past-3 (goal.at.returns c).Else-undefined
+returns c =
+    let path = goal.at.returns c in
+    ends ∙ passes _ _ _ c.not_grantable.ensures c.if-not_grantable.false ∙ past-3 path.Else-undefined

@@ -25,7 +25,9 @@ past-1 c = passes _ _ _ c.grouped.ensures c.if-grouped.false
 
 pub returns-then-no_app : goal.returns-then-no_app
 unfolding Past
-returns-then-no_app c = refuses _ _ _ c.no_app.ensures c.if-no_app.true ∙ past-1 (goal.at.returns-then-no_app c).Else-grouped
+returns-then-no_app c =
+    let path = goal.at.returns-then-no_app c in
+    refuses _ _ _ c.no_app.ensures c.if-no_app.true ∙ past-1 path.Else-grouped
 
 past-2 : (c : Else-no_app) → Past 2 (search)
 unfolding Past
@@ -33,7 +35,9 @@ past-2 c = passes _ _ _ c.no_app.ensures c.if-no_app.false ∙ past-1 (search)
 
 pub returns-then-no_group : goal.returns-then-no_group
 unfolding Past
-returns-then-no_group c = refuses _ _ _ c.no_group.ensures c.if-no_group.true ∙ past-2 (goal.at.returns-then-no_group c).Else-no_app
+returns-then-no_group c =
+    let path = goal.at.returns-then-no_group c in
+    refuses _ _ _ c.no_group.ensures c.if-no_group.true ∙ past-2 path.Else-no_app
 
 past-3 : (c : Else-no_group) → Past 3 (search)
 unfolding Past
@@ -41,8 +45,12 @@ past-3 c = passes _ _ _ c.no_group.ensures c.if-no_group.false ∙ past-2 (searc
 
 pub returns-then-not_groupable : goal.returns-then-not_groupable
 unfolding Past
-returns-then-not_groupable c = refuses _ _ _ c.not_groupable.ensures c.if-not_groupable.true ∙ past-3 (goal.at.returns-then-not_groupable c).Else-no_group
+returns-then-not_groupable c =
+    let path = goal.at.returns-then-not_groupable c in
+    refuses _ _ _ c.not_groupable.ensures c.if-not_groupable.true ∙ past-3 path.Else-no_group
 
 pub returns : goal.returns
 unfolding Past
-returns c = ends ∙ passes _ _ _ c.not_groupable.ensures c.if-not_groupable.false ∙ past-3 (goal.at.returns c).Else-no_group
+returns c =
+    let path = goal.at.returns c in
+    ends ∙ passes _ _ _ c.not_groupable.ensures c.if-not_groupable.false ∙ past-3 path.Else-no_group

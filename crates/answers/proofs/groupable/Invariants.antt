@@ -11,7 +11,8 @@ of_group apps definitions g p =
     test (known (view_by (rows_in apps) (definitions_in definitions) [] []) p) (λ k. dangerous k && eqb k.group g)
 
 abbrev pub invariant-loop-i : goal.invariant-loop-i
-invariant-loop-i l = Some (of_group l.apps l.definitions l.group) l.uses l.n (any (of_group l.apps l.definitions l.group) (take l.used l.uses)) l.i
+invariant-loop-i l = Some (of_group l.apps l.definitions l.group) l.uses l.n
+    (any (of_group l.apps l.definitions l.group) (take l.used l.uses)) l.i
 
 abbrev pub decreases-loop-i : goal.decreases-loop-i
 decreases-loop-i l = l.n - l.i

@@ -7,7 +7,8 @@ use Rattle.answers.proofs.is_lent.Given as goal
 
 abbrev pub invariant-loop-i : goal.invariant-loop-i
 invariant-loop-i l =
-    Some (λ x. is_loan (receiver_of l.receiver) l.provider l.uri x && carries (op_of l.operation) x.operations) l.lent l.n
+    Some (λ x. is_loan (receiver_of l.receiver) l.provider l.uri x && carries (op_of l.operation) x.operations) l.lent
+    l.n
     (lent_in (take l.count l.lent) (receiver_of l.receiver) l.provider l.uri (op_of l.operation)) l.i
 
 abbrev pub decreases-loop-i : goal.decreases-loop-i

@@ -33,16 +33,18 @@ returns-in-Nothing c = rw (app-missing _ _ (not_found _ _ (sym c.find_app-place.
 pub returns-in-Undefined : goal.returns-in-Undefined
 unfolding test
 returns-in-Undefined c =
+    let path = goal.at.returns-in-Undefined c in
     rw (
-      app-found _ _ _ (there (goal.at.returns-in-Undefined c).In-At).same,
-      look_none (asked (goal.at.returns-in-Undefined c).Start) (sym c.known_of-look.ensures ∙ c.in-Undefined.is),
+      app-found _ _ _ (there path.In-At).same,
+      look_none (asked path.Start) (sym c.known_of-look.ensures ∙ c.in-Undefined.is),
     )
 
 pub returns-in-Found : goal.returns-in-Found
 unfolding test
 returns-in-Found c =
+    let path = goal.at.returns-in-Found c in
     rw (
-      app-found _ _ _ (there (goal.at.returns-in-Found c).In-At).same,
-      look-found (asked (goal.at.returns-in-Found c).Start) _ (sym c.known_of-look.ensures ∙ c.in-Found.is),
+      app-found _ _ _ (there path.In-At).same,
+      look-found (asked path.Start) _ (sym c.known_of-look.ensures ∙ c.in-Found.is),
       c.grantable.ensures,
     )

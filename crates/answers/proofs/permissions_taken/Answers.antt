@@ -19,15 +19,17 @@ entry c =
 
 pub returns-then-defined : goal.returns-then-defined
 returns-then-defined c =
+    let path = goal.at.returns-then-defined c in
     sym (c.loop-left.invariant.1
-    ∙ any_here _ 3 _ _ _ c.loop-left-test.true (entry (goal.at.returns-then-defined c).After-define_at-p) c.defined.ensures c.if-defined.true)
+    ∙ any_here _ 3 _ _ _ c.loop-left-test.true (entry path.After-define_at-p) c.defined.ensures c.if-defined.true)
 
 pub loop-left-preserved : goal.loop-left-preserved
-loop-left-preserved c = (
-  omega arith,
-  c.loop-left.invariant.1
-      ∙ any-on _ 3 _ _ _ c.loop-left-test.true (entry (goal.at.loop-left-preserved c).After-define_at-p) c.defined.ensures c.if-defined.false,
-)
+loop-left-preserved c =
+    let path = goal.at.loop-left-preserved c in (
+      omega arith,
+      c.loop-left.invariant.1
+          ∙ any-on _ 3 _ _ _ c.loop-left-test.true (entry path.After-define_at-p) c.defined.ensures c.if-defined.false,
+    )
 
 pub returns : goal.returns
 returns c = sym (c.loop-left.invariant.1 ∙ any_none _ 3 _ _ _ c.loop-left-test.false)

@@ -15,7 +15,8 @@ taken apps definitions p = is_some (known (view_by (rows_in apps) (definitions_i
 abbrev pub invariant-loop-left : goal.invariant-loop-left
 invariant-loop-left l =
     (l.i + 3 * l.left ≡ l.first + 3 * l.count)
-    × (any (taken l.apps l.definitions) (entries (define_at l.bytes) 3 l.first l.count) ≡ any (taken l.apps l.definitions)
+    × (any (taken l.apps l.definitions) (entries (define_at l.bytes) 3 l.first l.count)
+    ≡ any (taken l.apps l.definitions)
     (entries (define_at l.bytes) 3 l.i l.left))
 
 abbrev pub decreases-loop-left : goal.decreases-loop-left

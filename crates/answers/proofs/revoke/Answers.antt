@@ -25,7 +25,9 @@ past-1 c = passes _ _ _ c.no_app.ensures c.if-no_app.false
 
 pub returns-then-undefined : goal.returns-then-undefined
 unfolding Past
-returns-then-undefined c = refuses _ _ _ c.undefined.ensures c.if-undefined.true ∙ past-1 (goal.at.returns-then-undefined c).Else-no_app
+returns-then-undefined c =
+    let path = goal.at.returns-then-undefined c in
+    refuses _ _ _ c.undefined.ensures c.if-undefined.true ∙ past-1 path.Else-no_app
 
 past-2 : (c : Else-undefined) → Past 2 (search)
 unfolding Past
@@ -33,8 +35,12 @@ past-2 c = passes _ _ _ c.undefined.ensures c.if-undefined.false ∙ past-1 (sea
 
 pub returns-then-granted : goal.returns-then-granted
 unfolding Past
-returns-then-granted c = ends ∙ passes _ _ _ (ap not c.granted.ensures) (ap not c.if-granted.true) ∙ past-2 (goal.at.returns-then-granted c).Else-undefined
+returns-then-granted c =
+    let path = goal.at.returns-then-granted c in
+    ends ∙ passes _ _ _ (ap not c.granted.ensures) (ap not c.if-granted.true) ∙ past-2 path.Else-undefined
 
 pub returns : goal.returns
 unfolding Past
-returns c = refuses _ _ _ (ap not c.granted.ensures) (ap not c.if-granted.false) ∙ past-2 (goal.at.returns c).Else-undefined
+returns c =
+    let path = goal.at.returns c in
+    refuses _ _ _ (ap not c.granted.ensures) (ap not c.if-granted.false) ∙ past-2 path.Else-undefined

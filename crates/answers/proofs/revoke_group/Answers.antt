@@ -24,7 +24,9 @@ past-1 c = passes _ _ _ c.no_app.ensures c.if-no_app.false
 
 pub returns-then-no_group : goal.returns-then-no_group
 unfolding Past
-returns-then-no_group c = refuses _ _ _ c.no_group.ensures c.if-no_group.true ∙ past-1 (goal.at.returns-then-no_group c).Else-no_app
+returns-then-no_group c =
+    let path = goal.at.returns-then-no_group c in
+    refuses _ _ _ c.no_group.ensures c.if-no_group.true ∙ past-1 path.Else-no_app
 
 past-2 : (c : Else-no_group) → Past 2 (search)
 unfolding Past
@@ -32,8 +34,12 @@ past-2 c = passes _ _ _ c.no_group.ensures c.if-no_group.false ∙ past-1 (searc
 
 pub returns-then-grouped : goal.returns-then-grouped
 unfolding Past
-returns-then-grouped c = ends ∙ passes _ _ _ (ap not c.grouped.ensures) (ap not c.if-grouped.true) ∙ past-2 (goal.at.returns-then-grouped c).Else-no_group
+returns-then-grouped c =
+    let path = goal.at.returns-then-grouped c in
+    ends ∙ passes _ _ _ (ap not c.grouped.ensures) (ap not c.if-grouped.true) ∙ past-2 path.Else-no_group
 
 pub returns : goal.returns
 unfolding Past
-returns c = refuses _ _ _ (ap not c.grouped.ensures) (ap not c.if-grouped.false) ∙ past-2 (goal.at.returns c).Else-no_group
+returns c =
+    let path = goal.at.returns c in
+    refuses _ _ _ (ap not c.grouped.ensures) (ap not c.if-grouped.false) ∙ past-2 path.Else-no_group

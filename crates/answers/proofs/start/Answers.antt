@@ -52,10 +52,12 @@ room c =
 pub returns-then-n-lt65 : goal.returns-then-n-lt65
 unfolding Room or_else
 returns-then-n-lt65 c =
+    let path = goal.at.returns-then-n-lt65 c in
     let f = is_free _ c.next_number-n.ensures c.if-n-lt65.true in
-    ap (λ o. Done Nothing (or_else 0 o)) (sym f) ∙ ends ∙ passes _ _ _ refl (there f) ∙ room (goal.at.returns-then-n-lt65 c).Else-may_not_start
+    ap (λ o. Done Nothing (or_else 0 o)) (sym f) ∙ ends ∙ passes _ _ _ refl (there f) ∙ room path.Else-may_not_start
 
 pub returns : goal.returns
 unfolding Room
 returns c =
-    refuses _ _ _ refl (gone (none_free _ c.next_number-n.ensures c.if-n-lt65.false)) ∙ room (goal.at.returns c).Else-may_not_start
+    let path = goal.at.returns c in
+    refuses _ _ _ refl (gone (none_free _ c.next_number-n.ensures c.if-n-lt65.false)) ∙ room path.Else-may_not_start

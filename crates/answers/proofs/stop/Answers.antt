@@ -8,7 +8,8 @@ use Rattle.answers.proofs.stop.Goals as goal
 
 pub returns-then-has_instance : goal.returns-then-has_instance
 unfolding answer refusals ground_for value_for missing view_of model_of
-returns-then-has_instance c = ends ∙ passes _ _ _ (ap not (c.has_instance.ensures ∙ run-here _ _)) (ap not c.if-has_instance.true)
+returns-then-has_instance c = ends
+    ∙ passes _ _ _ (ap not (c.has_instance.ensures ∙ run-here _ _)) (ap not c.if-has_instance.true)
 
 pub returns : goal.returns
 unfolding answer refusals missing view_of model_of

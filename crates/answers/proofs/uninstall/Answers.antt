@@ -24,7 +24,9 @@ past-1 c = passes _ _ _ c.no_app.ensures c.if-no_app.false
 
 pub returns-then-is_running : goal.returns-then-is_running
 unfolding Past
-returns-then-is_running c = refuses _ _ _ c.is_running.ensures c.if-is_running.true ∙ past-1 (goal.at.returns-then-is_running c).Else-no_app
+returns-then-is_running c =
+    let path = goal.at.returns-then-is_running c in
+    refuses _ _ _ c.is_running.ensures c.if-is_running.true ∙ past-1 path.Else-no_app
 
 past-2 : (c : Else-is_running) → Past 2 (search)
 unfolding Past
@@ -32,7 +34,9 @@ past-2 c = passes _ _ _ c.is_running.ensures c.if-is_running.false ∙ past-1 (s
 
 pub returns-then-in_image : goal.returns-then-in_image
 unfolding Past
-returns-then-in_image c = refuses _ _ _ c.in_image.ensures c.if-in_image.true ∙ past-2 (goal.at.returns-then-in_image c).Else-is_running
+returns-then-in_image c =
+    let path = goal.at.returns-then-in_image c in
+    refuses _ _ _ c.in_image.ensures c.if-in_image.true ∙ past-2 path.Else-is_running
 
 pub returns : goal.returns
 unfolding Past

@@ -8,7 +8,8 @@ use Rattle.state.specs.Tables.{view_of}
 use Rattle.state.specs.Stored.{model_of}
 use Rattle.answers.specs.AnsweringLaws.{Passed}
 use Rattle.answers.proofs.withdraw.Goals as goal
-use Rattle.answers.proofs.withdraw.Goals.{Else-no_operations, Else-no_provider, Else-no_resource, Else-not_running, Start}
+use Rattle.answers.proofs.withdraw.Goals.{Else-no_operations, Else-no_provider, Else-no_resource, Else-not_running}
+use Rattle.answers.proofs.withdraw.Goals.{Start}
 
 -- the first k tests are passed
 Past : ℕ → Start → Type 0
@@ -27,7 +28,9 @@ past-1 c = passes _ _ _ c.no_operations.ensures c.if-no_operations.false
 
 pub returns-then-no_provider : goal.returns-then-no_provider
 unfolding Past
-returns-then-no_provider c = refuses _ _ _ c.no_provider.ensures c.if-no_provider.true ∙ past-1 (goal.at.returns-then-no_provider c).Else-no_operations
+returns-then-no_provider c =
+    let path = goal.at.returns-then-no_provider c in
+    refuses _ _ _ c.no_provider.ensures c.if-no_provider.true ∙ past-1 path.Else-no_operations
 
 past-2 : (c : Else-no_provider) → Past 2 (search)
 unfolding Past
@@ -35,7 +38,9 @@ past-2 c = passes _ _ _ c.no_provider.ensures c.if-no_provider.false ∙ past-1 
 
 pub returns-then-not_running : goal.returns-then-not_running
 unfolding Past
-returns-then-not_running c = refuses _ _ _ c.not_running.ensures c.if-not_running.true ∙ past-2 (goal.at.returns-then-not_running c).Else-no_provider
+returns-then-not_running c =
+    let path = goal.at.returns-then-not_running c in
+    refuses _ _ _ c.not_running.ensures c.if-not_running.true ∙ past-2 path.Else-no_provider
 
 past-3 : (c : Else-not_running) → Past 3 (search)
 unfolding Past
@@ -43,7 +48,9 @@ past-3 c = passes _ _ _ c.not_running.ensures c.if-not_running.false ∙ past-2 
 
 pub returns-then-no_resource : goal.returns-then-no_resource
 unfolding Past
-returns-then-no_resource c = refuses _ _ _ c.no_resource.ensures c.if-no_resource.true ∙ past-3 (goal.at.returns-then-no_resource c).Else-not_running
+returns-then-no_resource c =
+    let path = goal.at.returns-then-no_resource c in
+    refuses _ _ _ c.no_resource.ensures c.if-no_resource.true ∙ past-3 path.Else-not_running
 
 past-4 : (c : Else-no_resource) → Past 4 (search)
 unfolding Past
@@ -51,8 +58,12 @@ past-4 c = passes _ _ _ c.no_resource.ensures c.if-no_resource.false ∙ past-3 
 
 pub returns-then-lacks_right : goal.returns-then-lacks_right
 unfolding Past
-returns-then-lacks_right c = refuses _ _ _ c.lacks_right.ensures c.if-lacks_right.true ∙ past-4 (goal.at.returns-then-lacks_right c).Else-no_resource
+returns-then-lacks_right c =
+    let path = goal.at.returns-then-lacks_right c in
+    refuses _ _ _ c.lacks_right.ensures c.if-lacks_right.true ∙ past-4 path.Else-no_resource
 
 pub returns : goal.returns
 unfolding Past
-returns c = ends ∙ passes _ _ _ c.lacks_right.ensures c.if-lacks_right.false ∙ past-4 (goal.at.returns c).Else-no_resource
+returns c =
+    let path = goal.at.returns c in
+    ends ∙ passes _ _ _ c.lacks_right.ensures c.if-lacks_right.false ∙ past-4 path.Else-no_resource

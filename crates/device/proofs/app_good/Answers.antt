@@ -17,25 +17,32 @@ grants : (c : After-grants_good) →
 grants c =
     c.grants_good.ensures
     ∙ ap (λ (l : List Bool). all (good_grant_by l (row_of c.args.a).app) (row_of c.args.a).grants)
-    c.requires.dangerous_value
+    c.requires.dangerous_told
     ∙ same-grants _ _ _ _ _ (row_of c.args.a).grants (holds c.manifest_good.ensures c.if-not-manifest_good.false-raw)
 
 pub returns-then-not-manifest_good : goal.returns-then-not-manifest_good
 returns-then-not-manifest_good c = rw (fails c.manifest_good.ensures c.if-not-manifest_good.true-raw)
 
 pub returns-then-not-grants_good : goal.returns-then-not-grants_good
-returns-then-not-grants_good c = rw (manifest (goal.at.returns-then-not-grants_good c).Else-not-manifest_good, fails (grants (goal.at.returns-then-not-grants_good c).After-grants_good) c.if-not-grants_good.true-raw)
+returns-then-not-grants_good c =
+    let path = goal.at.returns-then-not-grants_good c in
+    rw (manifest path.Else-not-manifest_good, fails (grants path.After-grants_good) c.if-not-grants_good.true-raw)
 
 pub returns : goal.returns
-returns c = c.lists_good.ensures ∙ rw (manifest (goal.at.returns c).Else-not-manifest_good, holds (grants (goal.at.returns c).After-grants_good) c.if-not-grants_good.false-raw)
+returns c =
+    let path = goal.at.returns c in
+    c.lists_good.ensures ∙ rw (
+      manifest path.Else-not-manifest_good,
+      holds (grants path.After-grants_good) c.if-not-grants_good.false-raw,
+    )
 
 pub manifest_good-requires : goal.manifest_good-requires
 manifest_good-requires c =
     record {
-      a_value = c.requires.a_value;
-      count_bound = c.requires.apps_ready.definitions_count;
-      count_bound_2 = c.requires.apps_ready.parts_count;
-      count_bound_3 = c.requires.apps_ready.resources_count;
-      parts_value = c.requires.apps_ready.numbers;
-      owners_value = c.requires.owners_value;
+      padded = c.requires.padded;
+      definitions_count = c.requires.apps_ready.definitions_count;
+      parts_count = c.requires.apps_ready.parts_count;
+      resources_count = c.requires.apps_ready.resources_count;
+      components_unique = c.requires.apps_ready.numbers;
+      owners_told = c.requires.owners_told;
     }

@@ -18,8 +18,9 @@ at l k n b e h = e ∙ ap (λ (m : ℕ). pads is_zero m l k) h
 
 pub returns : goal.returns
 returns c =
+    let path = goal.at.returns c in
     cc (
-      at c.args.a.uses c.args.a.used 32 _ c.bytes_padded.ensures (uses (goal.at.returns c).Start),
-      at c.args.a.grants c.args.a.granted 32 _ c.bytes_padded-2.ensures (grants (goal.at.returns c).Start),
-      at c.args.a.groups c.args.a.grouped 15 _ c.bytes_padded-3.ensures (groups (goal.at.returns c).Start),
+      at c.args.a.uses c.args.a.used 32 _ c.bytes_padded.ensures (uses path.Start),
+      at c.args.a.grants c.args.a.granted 32 _ c.bytes_padded-2.ensures (grants path.Start),
+      at c.args.a.groups c.args.a.grouped 15 _ c.bytes_padded-3.ensures (groups path.Start),
     )

@@ -17,13 +17,14 @@ loop-i-init c =
 
 pub app_good-requires : goal.app_good-requires
 app_good-requires c =
+    let path = goal.at.app_good-requires c in
     record {
       apps_ready = c.requires;
-      a_value = all-get app_pads c.args.apps.entries c.args.apps.count c.loop-i.i blank_app
+      padded = all-get app_pads c.args.apps.entries c.args.apps.count c.loop-i.i blank_app
           c.requires.lists
-          c.loop-i-test.true (omega (arith, long (goal.at.app_good-requires c).Start, c.requires.apps_count, c.loop-i-test.true));
-      owners_value = c.owners_of-owners.ensures;
-      dangerous_value = c.dangerous_in-dangerous.ensures;
+          c.loop-i-test.true (omega (arith, long path.Start, c.requires.apps_count, c.loop-i-test.true));
+      owners_told = c.owners_of-owners.ensures;
+      dangerous_told = c.dangerous_in-dangerous.ensures;
     }
 
 pub loop-i-preserved : goal.loop-i-preserved

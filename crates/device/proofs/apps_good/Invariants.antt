@@ -8,9 +8,11 @@ use Rattle.device.proofs.apps_good.Given as goal
 
 abbrev pub invariant-loop-i : goal.invariant-loop-i
 invariant-loop-i l =
-    Each (λ a. good_row (rows_in l.apps) (definitions_in l.definitions) (parts_in l.parts) (resources_in l.resources) (row_of a))
+    Each (λ a. good_row (rows_in l.apps) (definitions_in l.definitions) (parts_in l.parts) (resources_in l.resources)
+    (row_of a))
     l.apps.entries l.n
-    (all (λ a. good_row (rows_in l.apps) (definitions_in l.definitions) (parts_in l.parts) (resources_in l.resources) (row_of a))
+    (all (λ a. good_row (rows_in l.apps) (definitions_in l.definitions) (parts_in l.parts) (resources_in l.resources)
+    (row_of a))
     (take l.n l.apps.entries)) l.i
 
 abbrev pub decreases-loop-i : goal.decreases-loop-i

@@ -6,7 +6,8 @@ use Rattle.device.proofs.Kit.{◌-◌, false}
 use Rattle.device.proofs.dangerous_in.Given as goal
 
 abbrev pub invariant-loop-p : goal.invariant-loop-p
-invariant-loop-p l = Filled (is_dangerous (rows_in l.apps) (definitions_in l.definitions)) false 64 (numbers_from 0 64) 64 l.p l.dangerous
+invariant-loop-p l = Filled (is_dangerous (rows_in l.apps) (definitions_in l.definitions)) false 64 (numbers_from 0 64)
+    64 l.p l.dangerous
 
 abbrev pub decreases-loop-p : goal.decreases-loop-p
 decreases-loop-p l = 64 - l.p

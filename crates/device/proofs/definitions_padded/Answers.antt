@@ -9,7 +9,9 @@ long : (c : Start) → length c.args.t.entries ≡ 256
 long c = c.well_formed.0.1.1.0.1.0.1
 
 pub returns-then-n-gt256 : goal.returns-then-n-gt256
-returns-then-n-gt256 c = pads-past is_zero_definition 256 _ (long (goal.at.returns-then-n-gt256 c).Start) _ c.if-n-gt256.true
+returns-then-n-gt256 c =
+    let path = goal.at.returns-then-n-gt256 c in
+    pads-past is_zero_definition 256 _ (long path.Start) _ c.if-n-gt256.true
 
 pub loop-i-init : goal.loop-i-init
 loop-i-init c = each_from _ (omega (arith, long (goal.at.loop-i-init c).Start)) (omega arith)

@@ -12,7 +12,9 @@ few : (c : Start) → c.args.a.granted ≤ 32
 few c = (app-counts c.args.a c.requires).granted
 
 pub loop-i-init : goal.loop-i-init
-loop-i-init c = each_from 0 (omega (arith, long (goal.at.loop-i-init c).Start, few (goal.at.loop-i-init c).Start)) (omega arith)
+loop-i-init c =
+    let path = goal.at.loop-i-init c in
+    each_from 0 (omega (arith, long path.Start, few path.Start)) (omega arith)
 
 pub bounds-a-i : goal.bounds-a-i
 bounds-a-i c = omega (arith, few (goal.at.bounds-a-i c).Start)

@@ -6,7 +6,8 @@ use Rattle.device.proofs.Kit.{Pairs}
 use Rattle.device.proofs.instances_distinct.Given as goal
 
 abbrev pub invariant-loop-j : goal.invariant-loop-j
-invariant-loop-j l = Some (same_instance l.e) l.t.entries l.n (any (same_instance l.e) (slice (l.i + 1) l.n l.t.entries)) l.j
+invariant-loop-j l = Some (same_instance l.e) l.t.entries l.n
+    (any (same_instance l.e) (slice (l.i + 1) l.n l.t.entries)) l.j
 
 abbrev pub decreases-loop-j : goal.decreases-loop-j
 decreases-loop-j l = l.n - l.j

@@ -12,4 +12,5 @@ returns c = c.running_agrees.ensures
     ∙ rw (holds c.instances_padded.ensures c.if-not-instances_padded.false-raw)
 
 pub running_agrees-requires : goal.running_agrees-requires
-running_agrees-requires c = pads-room is_zero_instance 64 _ _ (holds c.instances_padded.ensures c.if-not-instances_padded.false-raw)
+running_agrees-requires c = pads-room is_zero_instance 64 _ _
+    (holds c.instances_padded.ensures c.if-not-instances_padded.false-raw)

@@ -14,7 +14,9 @@ asked c = known (view_by (rows_in c.args.apps) (definitions_in c.args.definition
 
 pub returns-in-Undefined : goal.returns-in-Undefined
 unfolding test
-returns-in-Undefined c = rw (look_none (asked (goal.at.returns-in-Undefined c).Start) (sym c.known_of-look.ensures ∙ c.in-Undefined.is))
+returns-in-Undefined c =
+    let path = goal.at.returns-in-Undefined c in
+    rw (look_none (asked path.Start) (sym c.known_of-look.ensures ∙ c.in-Undefined.is))
 
 pub returns-in-Found : goal.returns-in-Found
 unfolding test

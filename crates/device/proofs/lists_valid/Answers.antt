@@ -11,7 +11,8 @@ use Rattle.device.specs.ValidLaws.{valid-as-tested, within}
 use Rattle.device.proofs.Kit.{◌≡◌, ◌∙◌, sym, Bool, true, ◌&&◌, length, all, ltb, and_left, and_right, Holds}
 use Rattle.device.proofs.Kit.{holds, fails}
 use Rattle.device.proofs.lists_valid.Goals as goal
-use Rattle.device.proofs.lists_valid.Goals.{Else-not-apps_good, Else-not-definitions_distinct, Else-not-numbers_good, Else-not-owners_good, Else-not-runs_good, Start}
+use Rattle.device.proofs.lists_valid.Goals.{Else-not-apps_good, Else-not-definitions_distinct, Else-not-numbers_good}
+use Rattle.device.proofs.lists_valid.Goals.{Else-not-owners_good, Else-not-runs_good, Start}
 
 long : (s : Start) → length s.args.lent ≡ 128
 long s = s.well_formed.1.0.1.0.1
@@ -42,13 +43,14 @@ unique c =
 
 pub apps_good-requires : goal.apps_good-requires
 apps_good-requires c =
+    let path = goal.at.apps_good-requires c in
     record {
-      apps_count = (few (goal.at.apps_good-requires c).Start).apps;
-      definitions_count = (few (goal.at.apps_good-requires c).Start).definitions;
-      parts_count = (few (goal.at.apps_good-requires c).Start).parts;
-      resources_count = (few (goal.at.apps_good-requires c).Start).resources;
-      lists = (told (goal.at.apps_good-requires c).Start).lists;
-      numbers = unique (goal.at.apps_good-requires c).Else-not-numbers_good;
+      apps_count = (few path.Start).apps;
+      definitions_count = (few path.Start).definitions;
+      parts_count = (few path.Start).parts;
+      resources_count = (few path.Start).resources;
+      lists = (told path.Start).lists;
+      numbers = unique path.Else-not-numbers_good;
     }
 
 numbers : (c : Else-not-numbers_good) → Holds c.numbers_good.ensures
@@ -68,57 +70,74 @@ runs c = holds c.runs_good.ensures c.if-not-runs_good.false-raw
 
 pub returns-then-not-numbers_good : goal.returns-then-not-numbers_good
 unfolding model_of
-returns-then-not-numbers_good c = whole (goal.at.returns-then-not-numbers_good c).Start (rw (fails c.numbers_good.ensures c.if-not-numbers_good.true-raw))
+returns-then-not-numbers_good c =
+    let path = goal.at.returns-then-not-numbers_good c in
+    whole path.Start (rw (fails c.numbers_good.ensures c.if-not-numbers_good.true-raw))
 
 pub returns-then-not-owners_good : goal.returns-then-not-owners_good
 unfolding model_of
-returns-then-not-owners_good c = whole (goal.at.returns-then-not-owners_good c).Start (rw (numbers (goal.at.returns-then-not-owners_good c).Else-not-numbers_good, fails c.owners_good.ensures c.if-not-owners_good.true-raw))
+returns-then-not-owners_good c =
+    let path = goal.at.returns-then-not-owners_good c in
+    whole path.Start (rw (
+      numbers path.Else-not-numbers_good,
+      fails c.owners_good.ensures c.if-not-owners_good.true-raw,
+    ))
 
 pub returns-then-not-definitions_distinct : goal.returns-then-not-definitions_distinct
 unfolding model_of
 returns-then-not-definitions_distinct c =
-    whole (goal.at.returns-then-not-definitions_distinct c).Start (rw (
-      numbers (goal.at.returns-then-not-definitions_distinct c).Else-not-numbers_good,
-      owners (goal.at.returns-then-not-definitions_distinct c).Else-not-owners_good,
+    let path = goal.at.returns-then-not-definitions_distinct c in
+    whole path.Start (rw (
+      numbers path.Else-not-numbers_good,
+      owners path.Else-not-owners_good,
       fails c.definitions_distinct.ensures c.if-not-definitions_distinct.true-raw,
     ))
 
 pub returns-then-not-apps_good : goal.returns-then-not-apps_good
 unfolding model_of
 returns-then-not-apps_good c =
-    whole (goal.at.returns-then-not-apps_good c).Start (rw (
-      numbers (goal.at.returns-then-not-apps_good c).Else-not-numbers_good,
-      owners (goal.at.returns-then-not-apps_good c).Else-not-owners_good,
-      definitions (goal.at.returns-then-not-apps_good c).Else-not-definitions_distinct,
+    let path = goal.at.returns-then-not-apps_good c in
+    whole path.Start (rw (
+      numbers path.Else-not-numbers_good,
+      owners path.Else-not-owners_good,
+      definitions path.Else-not-definitions_distinct,
       fails c.apps_good.ensures c.if-not-apps_good.true-raw,
     ))
 
 pub returns-then-not-runs_good : goal.returns-then-not-runs_good
 unfolding model_of
 returns-then-not-runs_good c =
-    whole (goal.at.returns-then-not-runs_good c).Start (rw (
-      numbers (goal.at.returns-then-not-runs_good c).Else-not-numbers_good,
-      owners (goal.at.returns-then-not-runs_good c).Else-not-owners_good,
-      definitions (goal.at.returns-then-not-runs_good c).Else-not-definitions_distinct,
-      apps (goal.at.returns-then-not-runs_good c).Else-not-apps_good,
+    let path = goal.at.returns-then-not-runs_good c in
+    whole path.Start (rw (
+      numbers path.Else-not-numbers_good,
+      owners path.Else-not-owners_good,
+      definitions path.Else-not-definitions_distinct,
+      apps path.Else-not-apps_good,
       fails c.runs_good.ensures c.if-not-runs_good.true-raw,
     ))
 
 pub returns : goal.returns
 unfolding model_of
 returns c =
-    whole (goal.at.returns c).Start (c.lending_good.ensures
-    ∙ rw (numbers (goal.at.returns c).Else-not-numbers_good, owners (goal.at.returns c).Else-not-owners_good, definitions (goal.at.returns c).Else-not-definitions_distinct, apps (goal.at.returns c).Else-not-apps_good, runs (goal.at.returns c).Else-not-runs_good))
+    let path = goal.at.returns c in
+    whole path.Start (c.lending_good.ensures
+    ∙ rw (
+      numbers path.Else-not-numbers_good,
+      owners path.Else-not-owners_good,
+      definitions path.Else-not-definitions_distinct,
+      apps path.Else-not-apps_good,
+      runs path.Else-not-runs_good,
+    ))
 
 pub numbers_good-requires : goal.numbers_good-requires
 numbers_good-requires c =
     let n = few (goal.at.numbers_good-requires c).Start in
-    record { count_bound = n.apps; count_bound_2 = n.parts; count_bound_3 = n.resources }
+    record { apps_count = n.apps; parts_count = n.parts; resources_count = n.resources }
 
 pub owners_good-requires : goal.owners_good-requires
 owners_good-requires c =
     let n = few (goal.at.owners_good-requires c).Start in
-    record { count_bound = n.definitions; count_bound_2 = n.parts; count_bound_3 = n.resources }
+    record { definitions_count = n.definitions; parts_count = n.parts; resources_count = n.resources }
 
 pub definitions_distinct-requires : goal.definitions_distinct-requires
 definitions_distinct-requires c = (few (goal.at.definitions_distinct-requires c).Start).definitions
@@ -129,4 +148,4 @@ runs_good-requires c = (few (goal.at.runs_good-requires c).Start).instances
 pub lending_good-requires : goal.lending_good-requires
 lending_good-requires c =
     let n = few (goal.at.lending_good-requires c).Start in
-    record { lent_bound = n.loans; count_bound = n.resources }
+    record { loans_count = n.loans; resources_count = n.resources }

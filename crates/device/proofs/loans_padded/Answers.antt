@@ -9,7 +9,9 @@ long : (c : Start) → length c.args.lent ≡ 128
 long c = c.well_formed.0.1.0.1
 
 pub returns-then-count-gt128 : goal.returns-then-count-gt128
-returns-then-count-gt128 c = pads-past is_zero_loan 128 _ (long (goal.at.returns-then-count-gt128 c).Start) _ c.if-count-gt128.true
+returns-then-count-gt128 c =
+    let path = goal.at.returns-then-count-gt128 c in
+    pads-past is_zero_loan 128 _ (long path.Start) _ c.if-count-gt128.true
 
 pub loop-i-init : goal.loop-i-init
 loop-i-init c = each_from _ (omega (arith, long (goal.at.loop-i-init c).Start)) (omega arith)

@@ -12,7 +12,9 @@ long : (c : Start) → length c.args.t.entries ≡ 128
 long c = c.well_formed.0.1.1.0.1.0.1
 
 pub loop-i-init : goal.loop-i-init
-loop-i-init c = filled-begin (omega (arith, long (goal.at.loop-i-init c).Start)) (omega arith) c.no_owners-owners.ensures
+loop-i-init c =
+    let path = goal.at.loop-i-init c in
+    filled-begin (omega (arith, long path.Start)) (omega arith) c.no_owners-owners.ensures
 
 pub loop-i-preserved : goal.loop-i-preserved
 loop-i-preserved c =

@@ -34,20 +34,20 @@ owner t owners parts i long few is below =
 
 owned_here : (c : After-e-1) → get_or c.args.owners c.loop-i.i 0
     ≡ (part_or (parts_in c.args.parts) (get_or c.args.t.entries c.loop-i.i zero_resource).provider).app
-owned_here c = owner c.args.t c.args.owners c.args.parts c.loop-i.i c.well_formed.0.1.1.0.1.0.1 c.requires.count_bound
-    c.requires.owners_value c.loop-i-test.true
+owned_here c = owner c.args.t c.args.owners c.args.parts c.loop-i.i c.well_formed.0.1.1.0.1.0.1
+    c.requires.resources_count c.requires.owners_told c.loop-i-test.true
 
 -- the resource at the place is the app's
 its_own : (c : Then-owner-app) → let args = c.args in
     eqb (part_or (parts_in args.parts) (get_or args.t.entries c.loop-i.i zero_resource).provider).app
     args.app ≡ true
 its_own c = eq-eqb _ _ (sym (owner c.args.t c.args.owners c.args.parts c.loop-i.i c.well_formed.0.1.1.0.1.0.1
-    c.requires.count_bound c.requires.owners_value c.loop-i-test.true) ∙ c.if-owner-app.true)
+    c.requires.resources_count c.requires.owners_told c.loop-i-test.true) ∙ c.if-owner-app.true)
 
 mine : (s : Start) (p : ℕ)
     → owned_by (parts_in s.args.parts) s.args.app p ≡ eqb (part_or (parts_in s.args.parts) p).app
     s.args.app
-mine s p = owned (parts_in s.args.parts) s.requires.parts_value s.args.app s.requires.app_nonzero p
+mine s p = owned (parts_in s.args.parts) s.requires.components_unique s.args.app s.requires.app_nonzero p
 
 -- its test, as the law asks for it
 test-is : (c : After-provided) → let args = c.args in
@@ -58,7 +58,7 @@ test-is : (c : After-provided) → let args = c.args in
     (get_or args.t.entries c.loop-i.i zero_resource)
 test-is c own =
     c.provided.ensures
-    ∙ sym (good-if-provided (parts_in c.args.parts) c.requires.parts_value c.args.app c.requires.app_nonzero
+    ∙ sym (good-if-provided (parts_in c.args.parts) c.requires.components_unique c.args.app c.requires.app_nonzero
     (get_or c.args.t.entries c.loop-i.i zero_resource) own)
 
 whole : (s : Start) {b : Bool}
@@ -71,9 +71,10 @@ whole s e = e ∙ ap (good_resources (components_of s.args.app (parts_in s.args.
 
 pub returns-then-not-ok : goal.returns-then-not-ok
 returns-then-not-ok c =
-    whole (goal.at.returns-then-not-ok c).Start (rise-of-fails c.loop-i.invariant c.loop-i-test.true zero_resource
-    (mine (goal.at.returns-then-not-ok c).Start _ ∙ its_own (goal.at.returns-then-not-ok c).Then-owner-app)
-    (rw (← c.resource_key-key.ensures, ← test-is (goal.at.returns-then-not-ok c).After-provided (its_own (goal.at.returns-then-not-ok c).Then-owner-app)) c.if-not-ok.true))
+    let path = goal.at.returns-then-not-ok c in
+    whole path.Start (rise-of-fails c.loop-i.invariant c.loop-i-test.true zero_resource
+    (mine path.Start _ ∙ its_own path.Then-owner-app)
+    (rw (← c.resource_key-key.ensures, ← test-is path.After-provided (its_own path.Then-owner-app)) c.if-not-ok.true))
 
 pub overflow_sub-room : goal.overflow_sub-room
 overflow_sub-room c =
@@ -81,15 +82,17 @@ overflow_sub-room c =
 
 pub loop-i-preserved-then-owner-app : goal.loop-i-preserved-then-owner-app
 loop-i-preserved-then-owner-app c =
+    let path = goal.at.loop-i-preserved-then-owner-app c in
     rw c.resource_key-key.ensures
     (rise-of-takes c.loop-i.invariant c.loop-i-test.true zero_resource
-    (mine (goal.at.loop-i-preserved-then-owner-app c).Start _ ∙ its_own (goal.at.loop-i-preserved-then-owner-app c).Then-owner-app)
-    (rw (← c.resource_key-key.ensures, ← test-is (goal.at.loop-i-preserved-then-owner-app c).After-provided (its_own (goal.at.loop-i-preserved-then-owner-app c).Then-owner-app)) c.if-not-ok.false))
+    (mine path.Start _ ∙ its_own path.Then-owner-app)
+    (rw (← c.resource_key-key.ensures, ← test-is path.After-provided (its_own path.Then-owner-app)) c.if-not-ok.false))
 
 pub loop-i-preserved : goal.loop-i-preserved
 loop-i-preserved c =
+    let path = goal.at.loop-i-preserved c in
     rise-of-skips c.loop-i.invariant c.loop-i-test.true zero_resource
-    (mine (goal.at.loop-i-preserved c).Start _ ∙ ne_eqb _ _ (λ e. c.if-owner-app.false (owned_here (goal.at.loop-i-preserved c).After-e-1 ∙ e)))
+    (mine path.Start _ ∙ ne_eqb _ _ (λ e. c.if-owner-app.false (owned_here path.After-e-1 ∙ e)))
 
 pub returns : goal.returns
 returns c = whole (goal.at.returns c).Start (rise-of-ends c.loop-i.invariant c.loop-i-test.false)

@@ -9,7 +9,9 @@ long : (c : Start) → length c.args.t.entries ≡ 128
 long c = c.well_formed.0.1.1.0.1.0.1
 
 pub returns-then-n-gt128 : goal.returns-then-n-gt128
-returns-then-n-gt128 c = pads-past is_zero_resource 128 _ (long (goal.at.returns-then-n-gt128 c).Start) _ c.if-n-gt128.true
+returns-then-n-gt128 c =
+    let path = goal.at.returns-then-n-gt128 c in
+    pads-past is_zero_resource 128 _ (long path.Start) _ c.if-n-gt128.true
 
 pub loop-i-init : goal.loop-i-init
 loop-i-init c = each_from _ (omega (arith, long (goal.at.loop-i-init c).Start)) (omega arith)

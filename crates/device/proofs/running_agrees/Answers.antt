@@ -18,26 +18,30 @@ digit c t e = ap bit (sym c.has_instance.ensures ∙ e)
 pub returns-then-m-eq0 : goal.returns-then-m-eq0
 unfolding mask_of
 returns-then-m-eq0 c =
+    let path = goal.at.returns-then-m-eq0 c in
     digits-fail c.loop-k.invariant c.loop-k-test.true
-    (λ e. let z : 0 ≡ 1 = sym c.if-m-eq0.true ∙ e ∙ digit (goal.at.returns-then-m-eq0 c).After-has_instance true c.if-has_instance.true in omega
+    (λ e. let z : 0 ≡ 1 = sym c.if-m-eq0.true ∙ e ∙ digit path.After-has_instance true c.if-has_instance.true in omega
     arith)
 
 pub loop-k-preserved-then-has_instance : goal.loop-k-preserved-then-has_instance
 loop-k-preserved-then-has_instance c =
+    let path = goal.at.loop-k-preserved-then-has_instance c in
     digits-next c.loop-k.invariant c.loop-k-test.true
-    (omega (arith, c.if-m-eq0.false) ∙ sym (digit (goal.at.loop-k-preserved-then-has_instance c).After-has_instance true c.if-has_instance.true))
+    (omega (arith, c.if-m-eq0.false) ∙ sym (digit path.After-has_instance true c.if-has_instance.true))
 
 pub returns-then-m-eq1 : goal.returns-then-m-eq1
 unfolding mask_of
 returns-then-m-eq1 c =
+    let path = goal.at.returns-then-m-eq1 c in
     digits-fail c.loop-k.invariant c.loop-k-test.true
-    (λ e. let z : 1 ≡ 0 = sym c.if-m-eq1.true ∙ e ∙ digit (goal.at.returns-then-m-eq1 c).After-has_instance false c.if-has_instance.false in omega
+    (λ e. let z : 1 ≡ 0 = sym c.if-m-eq1.true ∙ e ∙ digit path.After-has_instance false c.if-has_instance.false in omega
     arith)
 
 pub loop-k-preserved : goal.loop-k-preserved
 loop-k-preserved c =
+    let path = goal.at.loop-k-preserved c in
     digits-next c.loop-k.invariant c.loop-k-test.true
-    (omega (arith, c.if-m-eq1.false) ∙ sym (digit (goal.at.loop-k-preserved c).After-has_instance false c.if-has_instance.false))
+    (omega (arith, c.if-m-eq1.false) ∙ sym (digit path.After-has_instance false c.if-has_instance.false))
 
 pub returns : goal.returns
 unfolding mask_of

@@ -6,7 +6,8 @@ use Rattle.device.proofs.Kit.{◌-◌, eqb}
 use Rattle.device.proofs.running_agrees.Given as goal
 
 abbrev pub invariant-loop-k : goal.invariant-loop-k
-invariant-loop-k l = Digits (runs (instances_in l.t)) (eqb l.t.running (digits_of (runs (instances_in l.t)) 1 64)) l.m l.k
+invariant-loop-k l = Digits (runs (instances_in l.t)) (eqb l.t.running (digits_of (runs (instances_in l.t)) 1 64)) l.m
+    l.k
 
 abbrev pub decreases-loop-k : goal.decreases-loop-k
 decreases-loop-k l = 65 - l.k

@@ -9,7 +9,8 @@ use Rattle.loans.proofs.lends.Given as goal
 
 abbrev pub invariant-loop-i : goal.invariant-loop-i
 invariant-loop-i l =
-    Some (λ x. is_loan (receiver_of l.receiver) l.provider l.uri x && carries (op_of l.operation) x.operations) l.loans.entries
+    Some (λ x. is_loan (receiver_of l.receiver) l.provider l.uri x && carries (op_of l.operation) x.operations)
+    l.loans.entries
     l.n (lent_in (loans_in l.loans) (receiver_of l.receiver) l.provider l.uri (op_of l.operation)) l.i
 
 abbrev pub decreases-loop-i : goal.decreases-loop-i

@@ -7,7 +7,8 @@ use Rattle.loans.specs.Held.{keeps_uninstall}
 use Rattle.loans.proofs.reduce_uninstall.Given as goal
 
 abbrev pub invariant-loop-i : goal.invariant-loop-i
-invariant-loop-i l = Compacted carries_any (kept (keeps_uninstall (parts_in l.parts) l.app)) l.initial.t.entries l.n l.i l.k l.t.entries
+invariant-loop-i l = Compacted carries_any (kept (keeps_uninstall (parts_in l.parts) l.app)) l.initial.t.entries l.n l.i
+    l.k l.t.entries
 
 abbrev pub decreases-loop-i : goal.decreases-loop-i
 decreases-loop-i l = l.n - l.i

@@ -21,5 +21,6 @@ overflow_add-result-2 c = omega (arith, room (goal.at.overflow_add-result-2 c).A
 
 pub returns : goal.returns
 returns c =
+    let path = goal.at.returns c in
     let a = c.args in
-    (ap (λ (n : ℕ). a.at + 1 + a.size * n) (c.wide.ensures ∙ c.byte_at.ensures), omega (arith, room (goal.at.returns c).After-wide))
+    (ap (λ (n : ℕ). a.at + 1 + a.size * n) (c.wide.ensures ∙ c.byte_at.ensures), omega (arith, room path.After-wide))

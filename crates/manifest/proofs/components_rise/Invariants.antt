@@ -8,7 +8,8 @@ use Rattle.manifest.proofs.components_rise.Given as goal
 abbrev pub invariant-loop-left : goal.invariant-loop-left
 invariant-loop-left l =
     (l.i + 8 * l.left ≡ l.from + 8 * l.count)
-    × (components_rise 0 (entries (component_at l.s) 8 l.from l.count) ≡ components_rise l.low (entries (component_at l.s) 8 l.i l.left))
+    × (components_rise 0 (entries (component_at l.s) 8 l.from l.count)
+    ≡ components_rise l.low (entries (component_at l.s) 8 l.i l.left))
 
 abbrev pub decreases-loop-left : goal.decreases-loop-left
 decreases-loop-left l = l.left

@@ -34,20 +34,24 @@ pub overflow_mul-result : goal.overflow_mul-result
 overflow_mul-result c = omega (arith, (known (goal.at.overflow_mul-result c).In-Of).fits)
 
 pub overflow_add-result-then-defines_rise : goal.overflow_add-result-then-defines_rise
-overflow_add-result-then-defines_rise c = omega (arith, (known (goal.at.overflow_add-result-then-defines_rise c).In-Of).fits)
+overflow_add-result-then-defines_rise c =
+    let path = goal.at.overflow_add-result-then-defines_rise c in
+    omega (arith, (known path.In-Of).fits)
 
 pub returns-then-defines_rise : goal.returns-then-defines_rise
 unfolding rise
 returns-then-defines_rise c =
+    let path = goal.at.returns-then-defines_rise c in
     let a = c.args in
-    end-good 3 16 a.s.now a.at (rise (goal.at.returns-then-defines_rise c).In-Of) (known (goal.at.returns-then-defines_rise c).In-Of)
+    end-good 3 16 a.s.now a.at (rise path.In-Of) (known path.In-Of)
     c.defines_rise.ensures c.if-defines_rise.true
 
 pub returns-else-defines_rise : goal.returns-else-defines_rise
 unfolding rise
 returns-else-defines_rise c =
+    let path = goal.at.returns-else-defines_rise c in
     let a = c.args in
-    end-bad 3 16 a.s.now a.at (rise (goal.at.returns-else-defines_rise c).In-Of) (known (goal.at.returns-else-defines_rise c).In-Of)
+    end-bad 3 16 a.s.now a.at (rise path.In-Of) (known path.In-Of)
     c.defines_rise.ensures c.if-defines_rise.false
 
 pub returns-in-Refused : goal.returns-in-Refused

@@ -14,4 +14,4 @@ returns-then-again c =
     let t = and_parts (eqb a.p a.last) (ltb 0 a.last) c.if-again.true in
     let same = eqb-true a.p a.last t.0 in
     sym (ap (λ (q : ℕ). any (is_provider_of q) (entries (component_at a.s.now) 8 a.from a.count)) same
-    ∙ c.requires.count_value (ltb-true 0 a.last t.1))
+    ∙ c.requires.last_known (ltb-true 0 a.last t.1))

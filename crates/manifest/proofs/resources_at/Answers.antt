@@ -40,20 +40,26 @@ pub overflow_mul-result : goal.overflow_mul-result
 overflow_mul-result c = omega (arith, (known (goal.at.overflow_mul-result c).After-wide).fits)
 
 pub overflow_add-result-then-resources_rise : goal.overflow_add-result-then-resources_rise
-overflow_add-result-then-resources_rise c = omega (arith, (known (goal.at.overflow_add-result-then-resources_rise c).After-wide).fits)
+overflow_add-result-then-resources_rise c =
+    let path = goal.at.overflow_add-result-then-resources_rise c in
+    omega (arith, (known path.After-wide).fits)
 
 pub returns-then-resources_rise : goal.returns-then-resources_rise
 unfolding rise
 returns-then-resources_rise c =
+    let path = goal.at.returns-then-resources_rise c in
     let a = c.args in
-    end-good 8 32 a.s.now a.at (rise a.s.now a.components a.at) (known (goal.at.returns-then-resources_rise c).After-wide) (answer (goal.at.returns-then-resources_rise c).After-resources_rise)
+    end-good 8 32 a.s.now a.at (rise a.s.now a.components a.at) (known path.After-wide)
+    (answer path.After-resources_rise)
     c.if-resources_rise.true
 
 pub returns-else-resources_rise : goal.returns-else-resources_rise
 unfolding rise
 returns-else-resources_rise c =
+    let path = goal.at.returns-else-resources_rise c in
     let a = c.args in
-    end-bad 8 32 a.s.now a.at (rise a.s.now a.components a.at) (known (goal.at.returns-else-resources_rise c).After-wide) (answer (goal.at.returns-else-resources_rise c).After-resources_rise)
+    end-bad 8 32 a.s.now a.at (rise a.s.now a.components a.at) (known path.After-wide)
+    (answer path.After-resources_rise)
     c.if-resources_rise.false
 
 pub returns-in-Refused : goal.returns-in-Refused

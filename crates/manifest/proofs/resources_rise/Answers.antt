@@ -13,7 +13,7 @@ pub loop-left-init : goal.loop-left-init
 loop-left-init c = (refl, refl, λ h. absurd (omega arith))
 
 pub knows_provider-known-requires : goal.knows_provider-known-requires
-knows_provider-known-requires c = record { count_in_bounds = omega arith; count_value = c.loop-left.invariant.2 }
+knows_provider-known-requires c = record { within = omega arith; last_known = c.loop-left.invariant.2 }
 
 pub returns-then-not-ok : goal.returns-then-not-ok
 returns-then-not-ok c =

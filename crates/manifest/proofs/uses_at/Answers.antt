@@ -39,15 +39,17 @@ overflow_add-result-then-uses_rise c = omega (arith, (known (goal.at.overflow_ad
 pub returns-then-uses_rise : goal.returns-then-uses_rise
 unfolding rise
 returns-then-uses_rise c =
+    let path = goal.at.returns-then-uses_rise c in
     let a = c.args in
-    end-good 1 32 a.s.now a.at (rise (goal.at.returns-then-uses_rise c).In-Of) (known (goal.at.returns-then-uses_rise c).In-Of)
+    end-good 1 32 a.s.now a.at (rise path.In-Of) (known path.In-Of)
     c.uses_rise.ensures c.if-uses_rise.true
 
 pub returns-else-uses_rise : goal.returns-else-uses_rise
 unfolding rise
 returns-else-uses_rise c =
+    let path = goal.at.returns-else-uses_rise c in
     let a = c.args in
-    end-bad 1 32 a.s.now a.at (rise (goal.at.returns-else-uses_rise c).In-Of) (known (goal.at.returns-else-uses_rise c).In-Of)
+    end-bad 1 32 a.s.now a.at (rise path.In-Of) (known path.In-Of)
     c.uses_rise.ensures c.if-uses_rise.false
 
 pub returns-in-Refused : goal.returns-in-Refused

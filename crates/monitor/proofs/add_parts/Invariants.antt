@@ -6,8 +6,10 @@ use Rattle.monitor.proofs.add_parts.Given as goal
 abbrev pub invariant-loop-left : goal.invariant-loop-left
 invariant-loop-left l =
     (l.at + 8 * l.left ≡ l.initial.at + 8 * l.initial.left)
-    × (append_all (λ (t : _) x. append_part t (record { app = l.app; component = x })) l.initial.t (entries (component_at l.s) 8 l.initial.at l.initial.left)
-    ≡ append_all (λ (t : _) x. append_part t (record { app = l.app; component = x })) l.t (entries (component_at l.s) 8 l.at l.left))
+    × (append_all (λ (t : _) x. append_part t (record { app = l.app; component = x })) l.initial.t
+    (entries (component_at l.s) 8 l.initial.at l.initial.left)
+    ≡ append_all (λ (t : _) x. append_part t (record { app = l.app; component = x })) l.t
+    (entries (component_at l.s) 8 l.at l.left))
 
 abbrev pub decreases-loop-left : goal.decreases-loop-left
 decreases-loop-left l = l.left

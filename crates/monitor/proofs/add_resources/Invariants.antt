@@ -6,7 +6,8 @@ use Rattle.monitor.proofs.add_resources.Given as goal
 abbrev pub invariant-loop-left : goal.invariant-loop-left
 invariant-loop-left l =
     (l.at + 8 * l.left ≡ l.initial.at + 8 * l.initial.left)
-    × (append_all append_resource l.initial.t (entries (resource_at l.s) 8 l.initial.at l.initial.left) ≡ append_all append_resource l.t
+    × (append_all append_resource l.initial.t (entries (resource_at l.s) 8 l.initial.at l.initial.left)
+    ≡ append_all append_resource l.t
     (entries (resource_at l.s) 8 l.at l.left))
 
 abbrev pub decreases-loop-left : goal.decreases-loop-left

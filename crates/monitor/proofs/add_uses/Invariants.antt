@@ -6,7 +6,8 @@ use Rattle.monitor.proofs.add_uses.Given as goal
 abbrev pub invariant-loop-left : goal.invariant-loop-left
 invariant-loop-left l =
     (l.at + 1 * l.left ≡ l.initial.at + 1 * l.initial.left)
-    × (append_all add_use l.initial.t (entries (u8_at l.s) 1 l.initial.at l.initial.left) ≡ append_all add_use l.t (entries (u8_at l.s) 1 l.at l.left))
+    × (append_all add_use l.initial.t (entries (u8_at l.s) 1 l.initial.at l.initial.left)
+    ≡ append_all add_use l.t (entries (u8_at l.s) 1 l.at l.left))
 
 abbrev pub decreases-loop-left : goal.decreases-loop-left
 decreases-loop-left l = l.left

@@ -4,4 +4,4 @@ use Rattle.monitor.proofs.on_install.Goals as goal
 
 pub after_install-requires : goal.after_install-requires
 after_install-requires c =
-    record { lent_value = c.requires; answer_value = c.install-answer.ensures ∙ apps-unasked c.args.d c.args.lent _ }
+    record { state_valid = c.requires; answer_given = c.install-answer.ensures ∙ apps-unasked c.args.d c.args.lent _ }

@@ -11,8 +11,8 @@ narrow-requires c = leb-true _ _ (sym c.fits.ensures ∙ c.if-fits.true)
 pub after_lend-requires : goal.after_lend-requires
 after_lend-requires c =
     let a = c.args in record {
-      lent_value = c.requires;
-      answer_value = c.lend-answer.ensures
+      state_valid = c.requires;
+      answer_given = c.lend-answer.ensures
           ∙ ap (λ (q : Receiver). answer_to (model_of a.d a.lent)
           (on_loans (lend a.operations a.provider a.giver a.uri q)))
           (sym c.narrow.ensures);

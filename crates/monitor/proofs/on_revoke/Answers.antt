@@ -4,4 +4,4 @@ use Rattle.monitor.proofs.on_revoke.Goals as goal
 
 pub after_change-requires : goal.after_change-requires
 after_change-requires c =
-    record { lent_value = c.requires; answer_value = c.revoke-answer.ensures ∙ grants-unasked c.args.d c.args.lent _ }
+    record { state_valid = c.requires; answer_given = c.revoke-answer.ensures ∙ grants-unasked c.args.d c.args.lent _ }

@@ -8,7 +8,7 @@ use Rattle.monitor.proofs.on_start.Goals as goal
 pub after_start-requires : goal.after_start-requires
 after_start-requires c =
     let running = running-kept c.args.d c.args.lent (kept_by c.well_formed.0 c.requires) in record {
-      lent_value = c.requires;
-      answer_value = c.start-answer.ensures ∙ start-formed c.args.d [] running c.args.component c.args.caller
+      state_valid = c.requires;
+      answer_given = c.start-answer.ensures ∙ start-formed c.args.d [] running c.args.component c.args.caller
           ∙ runs-unasked c.args.d c.args.lent _;
     }

@@ -4,4 +4,4 @@ use Rattle.monitor.proofs.on_stop.Goals as goal
 
 pub after_stop-requires : goal.after_stop-requires
 after_stop-requires c =
-    record { lent_value = c.requires; answer_value = c.stop-answer.ensures ∙ runs-unasked c.args.d c.args.lent _ }
+    record { state_valid = c.requires; answer_given = c.stop-answer.ensures ∙ runs-unasked c.args.d c.args.lent _ }

@@ -4,4 +4,4 @@ use Rattle.monitor.proofs.on_uninstall.Goals as goal
 
 pub after_uninstall-requires : goal.after_uninstall-requires
 after_uninstall-requires c =
-    record { lent_value = c.requires; answer_value = c.uninstall-answer.ensures ∙ apps-unasked c.args.d c.args.lent _ }
+    record { state_valid = c.requires; answer_given = c.uninstall-answer.ensures ∙ apps-unasked c.args.d c.args.lent _ }

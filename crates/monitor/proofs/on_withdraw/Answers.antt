@@ -4,4 +4,8 @@ use Rattle.monitor.proofs.on_withdraw.Goals as goal
 
 pub after_withdraw-requires : goal.after_withdraw-requires
 after_withdraw-requires c =
-    record { lent_value = c.requires; answer_value = c.withdraw-answer.ensures ∙ withdraw-unasked c.args.d c.args.lent _ _ _ _ }
+    record {
+      state_valid = c.requires;
+      answer_given = c.withdraw-answer.ensures
+          ∙ withdraw-unasked c.args.d c.args.lent _ _ _ _;
+    }

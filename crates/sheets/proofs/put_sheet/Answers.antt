@@ -5,4 +5,8 @@ use Rattle.sheets.proofs.put_sheet.Goals as goal
 
 pub overflow_sub-room-in-Bytes : goal.overflow_sub-room-in-Bytes
 overflow_sub-room-in-Bytes c =
-    omega (arith, (bytes_inside _ _ _ refl c.in-Bytes.ensures.value c.in-Bytes.ensures.out_after).0, c.sheet_of.auto.out)
+    omega (
+      arith,
+      (bytes_inside _ _ _ refl c.in-Bytes.ensures.value c.in-Bytes.ensures.out_after).0,
+      c.sheet_of.auto.out,
+    )

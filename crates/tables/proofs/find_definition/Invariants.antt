@@ -6,7 +6,8 @@ use Rattle.tables.specs.Held.{definitions_in}
 use Rattle.tables.proofs.find_definition.Given as goal
 
 abbrev pub invariant-loop-i : goal.invariant-loop-i
-invariant-loop-i l = Placed (is_definition l.permission) l.definitions.entries l.end (place_of (is_definition l.permission) (definitions_in l.definitions)) l.i
+invariant-loop-i l = Placed (is_definition l.permission) l.definitions.entries l.end
+    (place_of (is_definition l.permission) (definitions_in l.definitions)) l.i
 
 abbrev pub decreases-loop-i : goal.decreases-loop-i
 decreases-loop-i l = l.end - l.i

@@ -6,7 +6,8 @@ use Rattle.tables.specs.Held.{instances_in}
 use Rattle.tables.proofs.find_instance.Given as goal
 
 abbrev pub invariant-loop-i : goal.invariant-loop-i
-invariant-loop-i l = Placed (is_instance l.number) l.instances.entries l.end (place_of (is_instance l.number) (instances_in l.instances)) l.i
+invariant-loop-i l = Placed (is_instance l.number) l.instances.entries l.end
+    (place_of (is_instance l.number) (instances_in l.instances)) l.i
 
 abbrev pub decreases-loop-i : goal.decreases-loop-i
 decreases-loop-i l = l.end - l.i

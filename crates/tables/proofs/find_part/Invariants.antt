@@ -6,7 +6,8 @@ use Rattle.tables.specs.Held.{parts_in}
 use Rattle.tables.proofs.find_part.Given as goal
 
 abbrev pub invariant-loop-i : goal.invariant-loop-i
-invariant-loop-i l = Placed (is_part l.number) l.parts.entries l.end (place_of (is_part l.number) (parts_in l.parts)) l.i
+invariant-loop-i l = Placed (is_part l.number) l.parts.entries l.end (place_of (is_part l.number) (parts_in l.parts))
+    l.i
 
 abbrev pub decreases-loop-i : goal.decreases-loop-i
 decreases-loop-i l = l.end - l.i

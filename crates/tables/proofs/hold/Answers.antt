@@ -19,7 +19,9 @@ returns-then-not-has_byte c = rw (sym c.has_byte.ensures ∙ c.if-not-has_byte.t
 
 pub returns-then-known-eq0 : goal.returns-then-known-eq0
 unfolding hold
-returns-then-known-eq0 c = rw (listed (goal.at.returns-then-known-eq0 c).Else-not-has_byte, eq-eqb _ _ c.if-known-eq0.true)
+returns-then-known-eq0 c =
+    let path = goal.at.returns-then-known-eq0 c in
+    rw (listed path.Else-not-has_byte, eq-eqb _ _ c.if-known-eq0.true)
 
 pub returns-then-known-eq1 : goal.returns-then-known-eq1
 unfolding hold view_by view_of hold_dangerous

@@ -8,7 +8,8 @@ use Rattle.tables.proofs.undefined_grants.Given as goal
 
 abbrev pub invariant-loop-i : goal.invariant-loop-i
 invariant-loop-i l =
-    (l.t ≡ regrant l.initial.t l.t.grants l.initial.t.granted) × Squeezed (λ p. not (defined_by (definitions_in l.definitions) l.definer p))
+    (l.t ≡ regrant l.initial.t l.t.grants l.initial.t.granted)
+    × Squeezed (λ p. not (defined_by (definitions_in l.definitions) l.definer p))
     l.initial.t.grants l.n l.i l.k l.t.grants
 
 abbrev pub decreases-loop-i : goal.decreases-loop-i

@@ -5,7 +5,8 @@ use Rattle.state.specs.Effects.{put}
 use Rattle.tables.proofs.write_value.Given as goal
 
 abbrev pub invariant-loop-i : goal.invariant-loop-i
-invariant-loop-i l = (l.t.count ≡ l.initial.t.count) × Mapped (put l.provider l.uri l.value) l.initial.t.entries l.n l.i l.t.entries
+invariant-loop-i l = (l.t.count ≡ l.initial.t.count)
+    × Mapped (put l.provider l.uri l.value) l.initial.t.entries l.n l.i l.t.entries
 
 abbrev pub decreases-loop-i : goal.decreases-loop-i
 decreases-loop-i l = l.n - l.i

@@ -4,7 +4,8 @@ use Rattle.tape.specs.Written.{Left}
 use Rattle.tape.proofs.put.Given as goal
 
 abbrev pub invariant-loop-i : goal.invariant-loop-i
-invariant-loop-i l = (l.i ≤ length l.bytes) × (length l.out ≡ length l.initial.out) × Left l.initial.out l.at l.bytes l.out (l.at + l.i) (drop l.i l.bytes)
+invariant-loop-i l = (l.i ≤ length l.bytes) × (length l.out ≡ length l.initial.out)
+    × Left l.initial.out l.at l.bytes l.out (l.at + l.i) (drop l.i l.bytes)
 
 abbrev pub decreases-loop-i : goal.decreases-loop-i
 decreases-loop-i l = length l.bytes - l.i

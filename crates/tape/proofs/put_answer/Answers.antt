@@ -37,4 +37,9 @@ pub returns-in-Refused : goal.returns-in-Refused
 returns-in-Refused c =
     let told = c.in-Refused.is in
     let same = c.wide32-in-Refused.ensures.value in
-    let number = c.number.ensures in record { written = refused-written told same number c.put_field-a.ensures c.put.ensures; upper_bound = omega (arith, number-field _ _ 32 told same number) }
+    let number = c.number.ensures in
+    record {
+      written = refused-written told same number c.put_field-a.ensures c.put.ensures;
+      upper_bound =
+          omega (arith, number-field _ _ 32 told same number);
+    }

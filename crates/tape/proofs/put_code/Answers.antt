@@ -8,4 +8,8 @@ put_field-requires c = omega (arith, code-field c.wide.result 32 c.wide.ensures.
 
 pub returns : goal.returns
 returns c =
-    let w = c.wide in record { written = same-field 32 w.ensures.value c.put_field.ensures; upper_bound = omega (arith, code-field w.result 32 w.ensures.upper_bound) }
+    let w = c.wide in record {
+      written = same-field 32 w.ensures.value c.put_field.ensures;
+      upper_bound =
+          omega (arith, code-field w.result 32 w.ensures.upper_bound);
+    }

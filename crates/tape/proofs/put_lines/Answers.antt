@@ -13,7 +13,8 @@ loop-i-preserved c =
       omega arith,
       omega arith,
       omega arith,
-      ran-more l.invariant.3 c.step_at-next.result c.requires.tape_at.0 c.step_at-next.ensures c.put_line-at.ensures.written,
+      ran-more l.invariant.3 c.step_at-next.result c.requires.tape_at.0 c.step_at-next.ensures
+          c.put_line-at.ensures.written,
     )
 
 pub returns : goal.returns

@@ -8,4 +8,8 @@ put_field-requires c = omega (arith, value-field c.wide32.result 10 c.wide32.ens
 
 pub returns : goal.returns
 returns c =
-    let w = c.wide32 in record { written = same-field 10 w.ensures.value c.put_field.ensures; upper_bound = omega (arith, value-field w.result 10 w.ensures.upper_bound) }
+    let w = c.wide32 in record {
+      written = same-field 10 w.ensures.value c.put_field.ensures;
+      upper_bound =
+          omega (arith, value-field w.result 10 w.ensures.upper_bound);
+    }

@@ -30,7 +30,7 @@ put_lines-lines-requires c =
     let a = c.args in
     let t = told-count _ (told_at a.tape.now c.start_of.ensures c.in-At.is)
     c.u16_at-n.ensures in
-    record { tape_at = (t.tape, (omega (arith, t.ends), t.few)); n_in_bounds = omega arith }
+    record { tape_at = (t.tape, (omega (arith, t.ends), t.few)); room = omega arith }
 
 pub returns-in-NoTape : goal.returns-in-NoTape
 returns-in-NoTape c =
