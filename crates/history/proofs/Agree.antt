@@ -61,8 +61,7 @@ pub record Agrees (s : State) (h : List Past) : Type 0 where
 
 begin : Agrees fresh []
 unfolding fresh log_app log_part log_defined log_runs log_granted log_grouped log_lent log_value total app_at part_at
-    defined_in
-    run_in granted_in grouped_in lent_in value_in find keep bind map_option
+    defined_in run_in granted_in grouped_in lent_in value_in find keep bind map_option
 begin =
     record {
       app = λ n. refl;

@@ -45,6 +45,5 @@ pub record Example : Type 0 where
 
 pub example : Example
 unfolding log_lines manifest_place lengths_fit is_tape actions_before digits_within decimal field_or_none answer_text
-    line_text
-    lines_text end_line sheet_of sheet sheet_of_log
+    line_text lines_text end_line sheet_of sheet sheet_of_log
 example = record { device = refl; log = refl }

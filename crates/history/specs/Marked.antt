@@ -213,26 +213,20 @@ situations =
 unfoldable pub device_lines : List Action → List Line
 unfolding all keep find distinct mem upto is_some missing test bind map_option or_else or_find manifest_of carries
     operations_of is_operations receiver_kind receiver_number same_receiver fits fields_of forms fitting form_of asked
-    action_of
-    built_ins built_in known hold holds allows permission_for is_ground right_ground loan_ground ground running_app
-    provider
-    startable right_of ground_of clash crowded is_running grantable is_group groupable app_may_start barred free_number
-    lacking
-    no_receiving_app no_receiving_instance lent_any refusals ground_for value_for decide answer line_of fresh app_at
-    part_at
-    owned_by defined_by known_from defined_in granted_in grouped_in run_in is_resource value_in is_to is_on is_loan
-    lent_in view_of
-    grants_at groups_at keep_grants apps_after definitions_after parts_after put resources_after instances_after loan_of
-    with_operations kept carries_any reduce widened ends_with loans_after next after device log
+    action_of built_ins built_in known hold holds allows permission_for is_ground right_ground loan_ground ground
+    running_app provider startable right_of ground_of clash crowded is_running grantable is_group groupable
+    app_may_start barred free_number lacking no_receiving_app no_receiving_instance lent_any refusals ground_for
+    value_for decide answer line_of fresh app_at part_at owned_by defined_by known_from defined_in granted_in grouped_in
+    run_in is_resource value_in is_to is_on is_loan lent_in view_of grants_at groups_at keep_grants apps_after
+    definitions_after parts_after put resources_after instances_after loan_of with_operations kept carries_any reduce
+    widened ends_with loans_after next after device log
 device_lines xs = map (λ e. line_of e.answer) (reverse (log large (reverse xs)))
 
 -- the lines of the log alone
 unfoldable pub log_lines : List Action → List Line
 unfolding device_lines counted history unless app_by log_app part_by log_part known_in define_by log_defined run_by
-    log_runs
-    grant_by log_granted group_by log_grouped lent_by log_lent first_value value_by log_value total uninstalls installed
-    log_count
-    stops started log_running same_pair lends lent_still lasting log_loans view_of_log log_alone
+    log_runs grant_by log_granted group_by log_grouped lent_by log_lent first_value value_by log_value total uninstalls
+    installed log_count stops started log_running same_pair lends lent_still lasting log_loans view_of_log log_alone
 log_lines xs = map (λ e. line_of e.answer) (reverse (log_alone large (reverse xs)))
 
 pub record Marked : Type 0 where
