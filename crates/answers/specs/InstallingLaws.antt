@@ -1,9 +1,9 @@
 -- What the verdict on a manifest's bytes tells: they are no good manifest, or its sections stand where it says.
-use Rattle.std.specs.Prelude.{ℕ, ◌+◌, ◌*◌, ◌≤◌, min, ◌≡◌, refl, Bool, true, false, not, ◌||◌, cond, List, length, take}
+use Rattle.std.specs.Prelude.{ℕ, ◌+◌, ◌*◌, ◌≤◌, ◌≡◌, refl, Bool, true, false, not, ◌||◌, cond, List, length}
 use Rattle.std.specs.Prelude.{eqb, leb, ltb}
-use Rattle.std.proofs.Common.{sym, ap, ◌∙◌, length-take, arith, eqb-true, le-leb}
+use Rattle.std.proofs.Common.{sym, ap, ◌∙◌, arith, eqb-true, le-leb}
 use Rattle.manifest.specs.declared.Sections.{Sections}
-use Rattle.manifest.specs.declared.Verdict.TheVariants.{Good, Malformed}
+use Rattle.std.specs.Prelude.{Some, None}
 use Rattle.manifest.specs.Layout.{laid_out, manifest_of, u8_at, entries, define_at, component_at, resource_at}
 use Rattle.manifest.specs.Layout.{defines_place}
 use Rattle.manifest.specs.Layout.{components_place, resources_place, end_place}
@@ -18,10 +18,10 @@ use Rattle.rules.specs.View.{View}
 use Rattle.rules.specs.Permissions.{known}
 use Rattle.rules.specs.Refusals.{clash, crowded}
 
-pub malformed : (s : List ℕ) → verdict_of s ≡ Malformed → not (good (manifest_of s)) ≡ true
+pub malformed : (s : List ℕ) → verdict_of s ≡ None → not (good (manifest_of s)) ≡ true
 malformed s e = rw (good-manifest_of s) (go (good_bytes s) e)
   where
-    go : (t : Bool) → cond t (Good (sections_of s)) Malformed ≡ Malformed → not t ≡ true
+    go : (t : Bool) → cond t (Some (sections_of s)) None ≡ None → not t ≡ true
     go true h = absurd (let z : ◌≡◌ {A = ℕ} 0 1 = cc in omega arith)
     go false h = refl
 
@@ -35,7 +35,7 @@ whole-if : (s : List ℕ) → eqb (end_place s) (length s) ≡ true → manifest
 unfolding manifest_of
 whole-if s l = rw l
 
-pub read-good : (s : List ℕ) (m : Sections) → verdict_of s ≡ Good m → Read s m
+pub read-good : (s : List ℕ) (m : Sections) → verdict_of s ≡ Some m → Read s m
 read-good s m e =
     let g = go (good_bytes s) e in
     let l : eqb (end_place s) (length s) ≡ true =
@@ -47,7 +47,7 @@ read-good s m e =
       ends = eqb-true (end_place s) (length s) l;
     }
   where
-    go : (t : Bool) → cond t (Good (sections_of s)) Malformed ≡ Good m → (t ≡ true) × (sections_of s ≡ m)
+    go : (t : Bool) → cond t (Some (sections_of s)) None ≡ Some m → (t ≡ true) × (sections_of s ≡ m)
     go true h = (refl, cc)
     go false h = absurd (let z : ◌≡◌ {A = ℕ} 0 1 = cc in omega arith)
 
@@ -90,7 +90,3 @@ module _ {s : List ℕ} {m : Sections} (r : Read s m) where
 pub entry-there : {A : Type 0} (zeros : A) (f : List ℕ → ℕ → A) (size : ℕ) (s : List ℕ) (a : ℕ) → a + size ≤ length s
     → entry_at zeros f size s a ≡ f s a
 entry-there zeros f size s a h = rw (le-leb (a + size) (length s) h)
-
--- how many entries a table holds
-pub held : {A : Type 0} (l : List A) (k n : ℕ) → length l ≡ n → {b : ℕ} → b ≡ min k n → b ≡ length (take k l)
-held l k n e h = h ∙ sym (length-take k l ∙ ap (min k) e)

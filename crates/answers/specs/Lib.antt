@@ -3,6 +3,5 @@ pub mod AnsweringLaws
 pub mod GroundsLaws
 pub mod Starting
 pub mod StartingLaws
-pub mod Installing
 pub mod InstallingLaws
 pub mod Unique

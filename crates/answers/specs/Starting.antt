@@ -4,13 +4,11 @@ use Rattle.std.specs.Prelude.{ℕ, not, ◌&&◌, cond, [], ◌∷◌, eqb, ltb}
 use Rattle.std.proofs.Math.Option.{Option, none, some}
 use Rattle.rules.specs.declared.Ground.TheVariants.{Nothing}
 use Rattle.rules.specs.declared.Reason.TheVariants.{NoSuchComponent, NoSuchInstance, NotPermitted, NoRoom}
-use Rattle.rules.specs.declared.Answer.{Answer}
-use Rattle.rules.specs.declared.Answer.TheVariants.{Done}
 use Rattle.rules.specs.Lists.{missing, test, or_else}
 use Rattle.rules.specs.View.{View}
 use Rattle.rules.specs.Grounds.{running_app, startable}
 use Rattle.rules.specs.Refusals.{barred, ◌when◌}
-use Rattle.rules.specs.Answer.{decide}
+use Rattle.rules.specs.Answer.{Answer, done, decide}
 use Rattle.tables.specs.Running.{next_of}
 
 unfoldable pub start_with : Option ℕ → View → (component caller : ℕ) → Answer
@@ -20,7 +18,7 @@ start_with free v c n =
     NoSuchInstance when (not (eqb n 0) && missing (running_app v n)) ∷
     NotPermitted when test (startable v c) (λ k. barred v k n) ∷
     NoRoom when missing free ∷ [])
-    (Done Nothing (or_else 0 free))
+    (done Nothing (or_else 0 free))
 
 -- the number that the running numbers leave free
 unfoldable pub free_of : ℕ → Option ℕ

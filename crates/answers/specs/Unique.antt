@@ -3,7 +3,7 @@
 use Rattle.std.specs.Prelude.{ℕ, ◌≡◌, Bool, List, []}
 use Rattle.manifest.specs.Layout.{manifest_of}
 use Rattle.manifest.specs.Unique.{only_one}
-use Rattle.rules.specs.declared.Answer.{Answer}
+use Rattle.rules.specs.Answer.{Answer}
 use Rattle.rules.specs.declared.Loan.{Loan}
 use Rattle.rules.specs.Action.{install, uninstall, grant, revoke, grant_group, revoke_group, stop, lend, withdraw, read}
 use Rattle.rules.specs.Action.{ask, write, Action, on_apps, on_grants, on_runs, on_loans, query}

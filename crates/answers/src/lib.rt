@@ -1,65 +1,41 @@
 //! The conditions of every action: for each action a function that gives its answer for every device.
-//! The tests come in the order of the refusals, so that the first that applies is the answer.
+//! The conditions come in the order of the refusals, so that the first that applies is the answer.
 #![tactic(auto)]
 
-ghost use Rattle.std.specs.Prelude.{◌≡◌, not, ◌&&◌, ◌||◌, [], ◌+◌, ◌*◌, ◌≤◌, min, length, take, eqb, ltb, leb};
-ghost use Rattle.manifest.specs.declared.Verdict.TheVariants.{Good};
-ghost use Rattle.manifest.specs.Layout.{manifest_of, laid_out, entries, component_at, define_at};
+ghost use Rattle.std.specs.Prelude.{ℕ, ◌≡◌, not, ◌&&◌, ◌||◌, [], ◌+◌, ◌*◌, ◌≤◌, length, take, leb, ltb, eqb, Bool, Some};
+ghost use Rattle.manifest.specs.Layout.{manifest_of, laid_out, entries};
 ghost use Rattle.manifest.specs.Verdict.{verdict_of};
-ghost use Rattle.rules.specs.Lists.{any, is_some, missing, test};
+ghost use Rattle.rules.specs.declared.Ground.TheVariants.{Nothing};
+ghost use Rattle.rules.specs.Lists.{any, missing, test};
 ghost use Rattle.rules.specs.Action.{grant, revoke, grant_group, revoke_group, stop, read, write, ask, carries};
-ghost use Rattle.rules.specs.Action.{is_operations, reading, writing};
+ghost use Rattle.rules.specs.Action.{is_operations, receiver_kind, receiver_number};
 ghost use Rattle.rules.specs.Action.{install, uninstall, lend, withdraw, on_apps, on_grants, on_runs, on_loans, query};
-ghost use Rattle.rules.specs.Permissions.{known, holds, dangerous};
-ghost use Rattle.rules.specs.Grounds.{startable, is_ground, is_sharing, ground, running_app, provider, right_of};
-ghost use Rattle.rules.specs.Grounds.{ground_of};
-ghost use Rattle.rules.specs.Refusals.{clash, barred, app_may_start, grantable, is_group, groupable, is_running};
-ghost use Rattle.rules.specs.Refusals.{lacking};
-ghost use Rattle.rules.specs.Refusals.{no_receiving_app, no_receiving_instance};
+ghost use Rattle.rules.specs.Permissions.{known, dangerous};
+ghost use Rattle.rules.specs.Grounds.{ground, provider, startable, running_app};
+ghost use Rattle.rules.specs.Refusals.{clash, barred, app_may_start, person_may_start, grantable, is_group, groupable};
+ghost use Rattle.rules.specs.Refusals.{is_running, lacking, lent_any, no_receiving_app, no_receiving_instance};
 ghost use Rattle.rules.specs.Limits.{large};
+ghost use Rattle.rules.specs.Answer.{done};
+ghost use Rattle.state.specs.Listed.{list_in};
 ghost use Rattle.state.specs.Stored.{row_of};
-ghost use Rattle.state.specs.Tables.{part_at, apps_of, app_at, is_loan, lent_in, value_in};
-ghost use Rattle.tables.specs.Held.{rows_in, parts_in, resources_in, instances_in, apps_in};
-ghost use Rattle.tables.specs.Finding.{place_of, is_instance, is_app};
-ghost use Rattle.tables.specs.Looking.{view_by, op_of};
-ghost use Rattle.answers.specs.Answering.{permissions_view, parts_view, runs_view};
-ghost use Rattle.answers.specs.Answering.{answer_in, view_in, access_in, receiver_of, installed, stored_of, way_to};
-ghost use Rattle.answers.specs.Answering.{way_by, is_closed, is_of, owner_in, lacks_one};
+ghost use Rattle.state.specs.Tables.{is_loan};
+ghost use Rattle.tables.specs.Closures.{Gives};
+ghost use Rattle.tables.specs.Held.{apps_in, parts_in, instances_in};
+ghost use Rattle.tables.specs.Finding.{is_app};
+ghost use Rattle.tables.specs.Looking.{option_of, op_of, view_by, runner_in};
+ghost use Rattle.answers.specs.Answering.{answer_in, view_in, access_in, receiver_of, grounds, is_of};
 ghost use Rattle.answers.specs.Starting.{start_with, free_of};
-ghost use Rattle.answers.specs.Installing.{admit};
 
-use manifest::{Sections, Verdict};
-use rules::{Answer, Ground, Known, Loan, Part, Reason};
-use state::{App, Apps, Definitions, Device, Instances, Parts, Resources};
-use tables::{Look, Operation, Place};
+use manifest::Sections;
+use rules::{Answer, Done, Ground, Known, Loan, Part, Reason};
+use state::{App, Apps, Device, Parts, Table};
+use tables::Operation;
 
 /// To whom a loan goes.
-#[derive(Clone, Copy)]
+#[derive(Clone, Copy, PartialEq, Eq)]
 pub enum Receiver {
     Instance(u32),
     App(u32),
-}
-
-/// A component of the kind looked for, or none.
-#[derive(Clone, Copy)]
-pub enum Installed {
-    Found(Part),
-    Missing,
-}
-
-/// The stored value of a resource, or none.
-#[derive(Clone, Copy)]
-pub enum Stored {
-    Value(u32),
-    Nothing,
-}
-
-/// What stands in the way of an operation by an instance on a provider, or what it rests on.
-#[derive(Clone, Copy)]
-pub enum Way {
-    NoProvider,
-    NoInstance,
-    By(Ground),
 }
 
 // ---- questions
@@ -68,22 +44,10 @@ pub enum Way {
 pub fn ask(d: Device, app: u16, permission: u16) -> Answer
     ensures { result ≡ answer_in d [] (query (ask app permission)) }
 {
-    if no_app(d.apps, app) {
-        return Answer::Refused(Reason::NoSuchApp);
-    }
-    if undefined(d.apps, d.definitions, permission) {
-        return Answer::Refused(Reason::Undefined);
-    }
-    if held_by(d.apps, d.definitions, app, permission) {
-        return Answer::Done {
-            ground: Ground::Nothing,
-            value: 1,
-        };
-    }
-    Answer::Done {
-        ground: Ground::Nothing,
-        value: 0,
-    }
+    let app = tables::app_of(d.apps, app).ok_or(Reason::NoSuchApp)?;
+    let known = tables::known_of(d.apps, d.definitions, permission).ok_or(Reason::Undefined)?;
+    let held = tables::hold(d.apps, app, permission, known).is_held();
+    done(u32::from(held))
 }
 
 // ---- grants
@@ -93,40 +57,26 @@ pub fn grant(d: Device, app: u16, permission: u16) -> Answer
     ensures { result ≡ answer_in d [] (on_grants (grant app permission)) }
 {
     if tables::granted(d.apps, app, permission) {
-        return Answer::Refused(Reason::AlreadyThere);
+        return Err(Reason::AlreadyThere);
     }
-    if no_app(d.apps, app) {
-        return Answer::Refused(Reason::NoSuchApp);
+    let app = tables::app_of(d.apps, app).ok_or(Reason::NoSuchApp)?;
+    let known = tables::known_of(d.apps, d.definitions, permission).ok_or(Reason::Undefined)?;
+    if !grantable(app, permission, known) {
+        return Err(Reason::CannotBeGranted);
     }
-    if undefined(d.apps, d.definitions, permission) {
-        return Answer::Refused(Reason::Undefined);
-    }
-    if not_grantable(d.apps, d.definitions, app, permission) {
-        return Answer::Refused(Reason::CannotBeGranted);
-    }
-    Answer::Done {
-        ground: Ground::Nothing,
-        value: 0,
-    }
+    done(0)
 }
 
 /// The person takes a permission back from an app.
 pub fn revoke(d: Device, app: u16, permission: u16) -> Answer
     ensures { result ≡ answer_in d [] (on_grants (revoke app permission)) }
 {
-    if no_app(d.apps, app) {
-        return Answer::Refused(Reason::NoSuchApp);
+    tables::app_of(d.apps, app).ok_or(Reason::NoSuchApp)?;
+    tables::known_of(d.apps, d.definitions, permission).ok_or(Reason::Undefined)?;
+    if !tables::granted(d.apps, app, permission) {
+        return Err(Reason::NothingToTakeBack);
     }
-    if undefined(d.apps, d.definitions, permission) {
-        return Answer::Refused(Reason::Undefined);
-    }
-    if tables::granted(d.apps, app, permission) {
-        return Answer::Done {
-            ground: Ground::Nothing,
-            value: 0,
-        };
-    }
-    Answer::Refused(Reason::NothingToTakeBack)
+    done(0)
 }
 
 /// The person grants a group to an app.
@@ -134,40 +84,30 @@ pub fn grant_group(d: Device, app: u16, group: u16) -> Answer
     ensures { result ≡ answer_in d [] (on_grants (grant_group app group)) }
 {
     if tables::grouped(d.apps, app, group) {
-        return Answer::Refused(Reason::AlreadyThere);
+        return Err(Reason::AlreadyThere);
     }
-    if no_app(d.apps, app) {
-        return Answer::Refused(Reason::NoSuchApp);
+    let app = tables::app_of(d.apps, app).ok_or(Reason::NoSuchApp)?;
+    if !is_group(group) {
+        return Err(Reason::Undefined);
     }
-    if no_group(group) {
-        return Answer::Refused(Reason::Undefined);
+    if !groupable(d, app, group) {
+        return Err(Reason::CannotBeGranted);
     }
-    if not_groupable(d.apps, d.definitions, app, group) {
-        return Answer::Refused(Reason::CannotBeGranted);
-    }
-    Answer::Done {
-        ground: Ground::Nothing,
-        value: 0,
-    }
+    done(0)
 }
 
 /// The person takes a group back from an app.
 pub fn revoke_group(d: Device, app: u16, group: u16) -> Answer
     ensures { result ≡ answer_in d [] (on_grants (revoke_group app group)) }
 {
-    if no_app(d.apps, app) {
-        return Answer::Refused(Reason::NoSuchApp);
+    tables::app_of(d.apps, app).ok_or(Reason::NoSuchApp)?;
+    if !is_group(group) {
+        return Err(Reason::Undefined);
     }
-    if no_group(group) {
-        return Answer::Refused(Reason::Undefined);
+    if !tables::grouped(d.apps, app, group) {
+        return Err(Reason::NothingToTakeBack);
     }
-    if tables::grouped(d.apps, app, group) {
-        return Answer::Done {
-            ground: Ground::Nothing,
-            value: 0,
-        };
-    }
-    Answer::Refused(Reason::NothingToTakeBack)
+    done(0)
 }
 
 // ---- instances
@@ -177,36 +117,26 @@ pub fn revoke_group(d: Device, app: u16, group: u16) -> Answer
 pub fn start(d: Device, component: u16, caller: u16) -> Answer
     ensures { result ≡ start_with (free_of d.instances.running) (view_in d []) component caller }
 {
-    if not_startable(d.parts, component) {
-        return Answer::Refused(Reason::NoSuchComponent);
+    let part = startable(d.parts, component).ok_or(Reason::NoSuchComponent)?;
+    if no_caller(d, caller) {
+        return Err(Reason::NoSuchInstance);
     }
-    if no_caller(d.apps, d.parts, d.instances, caller) {
-        return Answer::Refused(Reason::NoSuchInstance);
-    }
-    if may_not_start(d, component, caller) {
-        return Answer::Refused(Reason::NotPermitted);
+    if barred(d, part, caller) {
+        return Err(Reason::NotPermitted);
     }
     let n = tables::next_number(d.instances);
-    if n < 65 {
-        return Answer::Done {
-            ground: Ground::Nothing,
-            value: n,
-        };
+    if 64 < n {
+        return Err(Reason::NoRoom);
     }
-    Answer::Refused(Reason::NoRoom)
+    done(n)
 }
 
 /// An instance stops.
 pub fn stop(d: Device, instance: u16) -> Answer
     ensures { result ≡ answer_in d [] (on_runs (stop instance)) }
 {
-    if tables::has_instance(d.instances, instance) {
-        return Answer::Done {
-            ground: Ground::Nothing,
-            value: 0,
-        };
-    }
-    Answer::Refused(Reason::NoSuchInstance)
+    tables::instance_of(d.instances, instance).ok_or(Reason::NoSuchInstance)?;
+    done(0)
 }
 
 // ---- resources
@@ -229,17 +159,8 @@ pub fn write(
 ) -> Answer
     ensures { result ≡ answer_in d lent (write provider instance uri value) }
 {
-    let a = access(d, lent, provider, instance, uri, Operation::Write);
-    match a {
-        Answer::Refused(n) => Answer::Refused(n),
-        Answer::Done {
-            ground: g,
-            value: _,
-        } => Answer::Done {
-            ground: g,
-            value: value,
-        },
-    }
+    let done = access(d, lent, provider, instance, uri, Operation::Write)?;
+    Ok(Done { value, ..done })
 }
 
 // ---- loans
@@ -248,25 +169,18 @@ pub fn write(
 pub fn withdraw(d: Device, operations: u8, provider: u16, instance: u16, uri: u16) -> Answer
     ensures { result ≡ answer_in d [] (on_loans (withdraw operations provider instance uri)) }
 {
-    if no_operations(operations) {
-        return Answer::Refused(Reason::MalformedAction);
+    if !is_operations(operations) {
+        return Err(Reason::MalformedAction);
     }
-    if no_provider(d.parts, provider) {
-        return Answer::Refused(Reason::NoSuchComponent);
+    let part = provider_of(d.parts, provider).ok_or(Reason::NoSuchComponent)?;
+    let app = tables::runner(d.apps, d.parts, d.instances, instance).ok_or(Reason::NoSuchInstance)?;
+    tables::resource_of(d.resources, provider, uri).ok_or(Reason::NoSuchResource)?;
+    let read = tables::ground_right(d.apps, d.definitions, app, part, Operation::Read);
+    let write = tables::ground_right(d.apps, d.definitions, app, part, Operation::Write);
+    if lacking(operations, read, write) {
+        return Err(Reason::NotPermitted);
     }
-    if not_running(d.apps, d.parts, d.instances, instance) {
-        return Answer::Refused(Reason::NoSuchInstance);
-    }
-    if no_resource(d.resources, provider, uri) {
-        return Answer::Refused(Reason::NoSuchResource);
-    }
-    if lacks_right(d, operations, provider, instance) {
-        return Answer::Refused(Reason::NotPermitted);
-    }
-    Answer::Done {
-        ground: Ground::Nothing,
-        value: 0,
-    }
+    done(0)
 }
 
 /// An instance lends operations on a resource to an instance or an app. A loan that is there already takes no room.
@@ -281,33 +195,27 @@ pub fn lend(
 ) -> Answer
     ensures { result ≡ answer_in d lent (on_loans (lend operations provider instance uri (receiver_of receiver))) }
 {
-    if no_operations(operations) {
-        return Answer::Refused(Reason::MalformedAction);
+    if !is_operations(operations) {
+        return Err(Reason::MalformedAction);
     }
-    if no_receiving_app(d.apps, receiver) {
-        return Answer::Refused(Reason::NoSuchApp);
+    if no_receiving_app(d, receiver) {
+        return Err(Reason::NoSuchApp);
     }
-    if no_provider(d.parts, provider) {
-        return Answer::Refused(Reason::NoSuchComponent);
+    let part = provider_of(d.parts, provider).ok_or(Reason::NoSuchComponent)?;
+    let app = tables::runner(d.apps, d.parts, d.instances, instance).ok_or(Reason::NoSuchInstance)?;
+    if no_receiving_instance(d, receiver) {
+        return Err(Reason::NoSuchInstance);
     }
-    if not_running(d.apps, d.parts, d.instances, instance)
-        | no_receiving_instance(d.apps, d.parts, d.instances, receiver)
-    {
-        return Answer::Refused(Reason::NoSuchInstance);
+    tables::resource_of(d.resources, provider, uri).ok_or(Reason::NoSuchResource)?;
+    let read = ground_of(d, lent, app, part, instance, uri, Operation::Read);
+    let write = ground_of(d, lent, app, part, instance, uri, Operation::Write);
+    if (part.component.shares != 1) | lacking(operations, read, write) {
+        return Err(Reason::NotPermitted);
     }
-    if no_resource(d.resources, provider, uri) {
-        return Answer::Refused(Reason::NoSuchResource);
+    if !lent_any(d, lent, receiver, provider, uri) & is_full(d, lent) {
+        return Err(Reason::NoRoom);
     }
-    if not_sharing(d.parts, provider) | lacks_ground(d, lent, operations, provider, instance, uri) {
-        return Answer::Refused(Reason::NotPermitted);
-    }
-    if !lent_any(lent, d.lent, receiver, provider, uri) & (128 <= d.lent) {
-        return Answer::Refused(Reason::NoRoom);
-    }
-    Answer::Done {
-        ground: Ground::Nothing,
-        value: 0,
-    }
+    done(0)
 }
 
 // ---- apps
@@ -316,471 +224,187 @@ pub fn lend(
 pub fn install(d: Device, image: bool, bytes: &[u8]) -> Answer
     ensures { result ≡ answer_in d [] (on_apps (install image (manifest_of bytes.now))) }
 {
-    let verdict = manifest::check(bytes);
-    match verdict {
-        Verdict::Malformed => Answer::Refused(Reason::MalformedManifest),
-        Verdict::Good(m) => admit(d, bytes, m),
+    let Some(m) = manifest::check(bytes) else {
+        return Err(Reason::MalformedManifest);
+    };
+    if clashes(d, bytes, m) {
+        return Err(Reason::AlreadyThere);
     }
+    if is_crowded(d, m) {
+        return Err(Reason::NoRoom);
+    }
+    done(0)
 }
 
 /// An app is taken off the device.
 pub fn uninstall(d: Device, app: u16) -> Answer
     ensures { result ≡ answer_in d [] (on_apps (uninstall app)) }
 {
-    if no_app(d.apps, app) {
-        return Answer::Refused(Reason::NoSuchApp);
+    let found = tables::app_of(d.apps, app).ok_or(Reason::NoSuchApp)?;
+    if is_running(d, app) {
+        return Err(Reason::InUse);
     }
-    if is_running(d.parts, d.instances, app) {
-        return Answer::Refused(Reason::InUse);
+    if found.image {
+        return Err(Reason::PartOfTheImage);
     }
-    if in_image(d.apps, app) {
-        return Answer::Refused(Reason::PartOfTheImage);
-    }
-    Answer::Done {
+    done(0)
+}
+
+// An action other than a read or a write is done, with its value.
+fn done(value: u32) -> Answer
+    ensures { result ≡ done Nothing value }
+{
+    Ok(Done {
         ground: Ground::Nothing,
-        value: 0,
-    }
+        value,
+    })
 }
 
 // ---- install
 
-// For a good manifest, whose sections are given.
-fn admit(d: Device, bytes: &[u8], m: Sections) -> Answer
-    requires { verdict_of bytes.now ≡ Good m }
-    ensures { result ≡ admit (view_in d []) (manifest_of bytes.now) }
-{
-    if clashes(d, bytes, m) {
-        return Answer::Refused(Reason::AlreadyThere);
-    }
-    if is_crowded(d, m) {
-        return Answer::Refused(Reason::NoRoom);
-    }
-    Answer::Done {
-        ground: Ground::Nothing,
-        value: 0,
-    }
-}
-
 fn clashes(d: Device, bytes: &[u8], m: Sections) -> bool
-    requires { verdict_of bytes.now ≡ Good m }
+    requires { verdict_of bytes.now ≡ Some m }
     ensures { result ≡ clash (view_in d []) (laid_out bytes.now) }
 {
-    if tables::has_app(d.apps, m.app) {
-        return true;
-    }
     let c = m.components;
-    if components_taken(d.parts, bytes, c.first, c.count) {
-        return true;
-    }
     let p = m.defines;
-    permissions_taken(d.apps, d.definitions, bytes, p.first, p.count)
+    tables::has_app(d.apps, m.app)
+        || (any_entry(c.first, 8, c.count, |at| {
+            tables::has_part(d.parts, manifest::component_at(bytes, at).number)
+        }) || any_entry(p.first, 3, p.count, |at| {
+            let permission = u16::from(manifest::define_at(bytes, at).permission);
+            tables::known_of(d.apps, d.definitions, permission).is_some()
+        }))
 }
 
-fn components_taken(parts: Parts, bytes: &[u8], first: usize, count: u8) -> bool
-    requires { first + 8 * count ≤ length bytes.now }
-    ensures { result
-        ≡ any (λ c. is_some (part_at (parts_in parts) c.number))
-        (entries (component_at bytes.now) 8 first count) }
+// Does an entry of a section pass a test? The test is given its place.
+fn any_entry<F: Fn(usize) -> bool>(first: usize, size: usize, count: u8, passes: F) -> bool
+    requires callable { F.IsAlwaysCallable passes }
+    requires fits { first + size * count ≤ 9223372036854775807 }
+    ensures { (test : ℕ → Bool) → Gives F.Fn passes test → result ≡ any test (entries (λ at. at) size first count) }
 {
-    let mut i = first;
-    let mut left = count;
-    while 0 < left {
-        let c = manifest::component_at(bytes, i);
-        if tables::has_part(parts, c.number) {
+    for k in 0..usize::from(count) {
+        if passes(first + size * k) {
             return true;
-        } else {
-            i += 8;
-            left -= 1;
         }
     }
     false
-}
-
-// By an app or by the platform.
-fn permissions_taken(
-    apps: Apps,
-    definitions: Definitions,
-    bytes: &[u8],
-    first: usize,
-    count: u8,
-) -> bool
-    requires { first + 3 * count ≤ length bytes.now }
-    ensures { result
-        ≡ any (λ p. is_some (known (permissions_view apps definitions) p.permission))
-        (entries (define_at bytes.now) 3 first count) }
-{
-    let mut i = first;
-    let mut left = count;
-    while 0 < left {
-        let p = manifest::define_at(bytes, i);
-        if defined(apps, definitions, p.permission) {
-            return true;
-        } else {
-            i += 3;
-            left -= 1;
-        }
-    }
-    false
-}
-
-fn defined(apps: Apps, definitions: Definitions, permission: u8) -> bool
-    ensures { result ≡ is_some (known (permissions_view apps definitions) permission) }
-{
-    !undefined(apps, definitions, wide(permission))
 }
 
 fn is_crowded(d: Device, m: Sections) -> bool
     ensures { result
-        ≡ leb 16 (length (rows_in d.apps))
+        ≡ leb 16 (length (apps_in d.apps))
         || (ltb 64 (length (parts_in d.parts) + m.components.count)
-        || ltb 128 (length (resources_in d.resources) + m.resources.count)) }
+        || ltb 128 (length (list_in d.resources) + m.resources.count)) }
 {
-    let c = m.components;
-    let r = m.resources;
-    full_of_apps(d.apps)
-        | (too_many_parts(d.parts, c.count) | too_many_resources(d.resources, r.count))
-}
-
-fn full_of_apps(apps: Apps) -> bool
-    ensures { result ≡ leb 16 (length (rows_in apps)) }
-{
-    16 <= within(apps.count, 16)
-}
-
-fn too_many_parts(parts: Parts, more: u8) -> bool
-    ensures { result ≡ ltb 64 (length (parts_in parts) + more) }
-{
-    let n = within(parts.count, 64);
-    let k = more as usize;
-    64 < n + k
-}
-
-fn too_many_resources(resources: Resources, more: u8) -> bool
-    ensures { result ≡ ltb 128 (length (resources_in resources) + more) }
-{
-    let n = within(resources.count, 128);
-    let k = more as usize;
-    128 < n + k
+    16 <= d.apps.held().len()
+        || 64 < d.parts.held().len() + usize::from(m.components.count)
+        || 128 < d.resources.held().len() + usize::from(m.resources.count)
 }
 
 // ---- apps and permissions
 
-fn no_app(apps: Apps, number: u16) -> bool
-    ensures { result ≡ missing (app_at (apps_of (rows_in apps)) number) }
-{
-    !tables::has_app(apps, number)
-}
-
-fn undefined(apps: Apps, definitions: Definitions, permission: u16) -> bool
-    ensures { result ≡ missing (known (permissions_view apps definitions) permission) }
-{
-    let look = tables::known_of(apps, definitions, permission);
-    match look {
-        Look::Found(_) => false,
-        Look::Undefined => true,
-    }
-}
-
-// An app that is not there holds nothing.
-fn held_by(apps: Apps, definitions: Definitions, app: u16, permission: u16) -> bool
-    ensures { result
-        ≡ test (app_at (apps_of (rows_in apps)) app)
-        (λ a. holds (permissions_view apps definitions) a permission) }
-{
-    let place = tables::find_app(apps, app);
-    match place {
-        Place::Nothing => false,
-        Place::At(i) => {
-            let a = apps.entries[i];
-            tables::holds(apps, definitions, a, permission)
-        }
-    }
-}
-
-// The app does not list the permission, or it is not dangerous.
-fn not_grantable(apps: Apps, definitions: Definitions, app: u16, permission: u16) -> bool
-    ensures { result
-        ≡ test (app_at (apps_of (rows_in apps)) app)
-        (λ a. test (known (permissions_view apps definitions) permission)
-        (λ k. not (grantable a permission k))) }
-{
-    let place = tables::find_app(apps, app);
-    match place {
-        Place::Nothing => false,
-        Place::At(i) => {
-            let a = apps.entries[i];
-            let look = tables::known_of(apps, definitions, permission);
-            match look {
-                Look::Undefined => false,
-                Look::Found(k) => !grantable(a, permission, k),
-            }
-        }
-    }
-}
-
+// The app lists the permission, and it is dangerous.
+#[tactic(auto, unfolding(rules::specs::Refusals::grantable, rules::specs::Permissions::dangerous))]
 fn grantable(app: App, permission: u16, known: Known) -> bool
     ensures { result ≡ grantable (row_of app).app permission known }
 {
-    let n = app.used as usize;
-    tables::has_byte(&app.uses, n, permission) & (known.level == 1)
+    tables::is_on(&app.uses, permission) & (known.level == 1)
 }
 
-fn no_group(group: u16) -> bool
-    ensures { result ≡ not (is_group group) }
+#[tactic(auto, unfolding(rules::specs::Refusals::is_group))]
+fn is_group(group: u16) -> bool
+    ensures { result ≡ is_group group }
 {
-    !((1 <= group) & (group <= 15))
+    (1..=15).contains(&group)
 }
 
-// The app lists no dangerous permission of the group.
-fn not_groupable(apps: Apps, definitions: Definitions, app: u16, group: u16) -> bool
-    ensures { result
-        ≡ test (app_at (apps_of (rows_in apps)) app)
-        (λ a. not (groupable (permissions_view apps definitions) a group)) }
+// The app lists a dangerous permission of the group.
+fn groupable(d: Device, app: App, group: u16) -> bool
+    ensures { result ≡ groupable (view_in d []) (row_of app).app group }
 {
-    let place = tables::find_app(apps, app);
-    match place {
-        Place::Nothing => false,
-        Place::At(i) => {
-            let a = apps.entries[i];
-            !groupable(apps, definitions, a, group)
-        }
-    }
-}
-
-fn groupable(apps: Apps, definitions: Definitions, app: App, group: u16) -> bool
-    ensures { result ≡ groupable (permissions_view apps definitions) (row_of app).app group }
-{
-    let uses = app.uses;
-    let used = app.used as usize;
-    let n = within(used, 32);
-    let mut i: usize = 0;
-    while i < n {
-        let p = uses[i];
-        if in_group(apps, definitions, p, group) {
-            return true;
-        } else {
-            i += 1;
-        }
-    }
-    false
+    app.uses.held().iter().any(|p| in_group(d, *p, group))
 }
 
 // Is the permission defined, dangerous and of the group?
-fn in_group(apps: Apps, definitions: Definitions, permission: u8, group: u16) -> bool
-    ensures { result
-        ≡ test (known (permissions_view apps definitions) permission)
-        (λ k. dangerous k && eqb k.group group) }
+fn in_group(d: Device, permission: u8, group: u16) -> bool
+    ensures { result ≡ test (known (view_in d []) permission) (λ k. dangerous k && eqb k.group group) }
 {
-    let p = wide(permission);
-    let look = tables::known_of(apps, definitions, p);
-    match look {
-        Look::Undefined => false,
-        Look::Found(k) => (k.level == 1) & (wide(k.group) == group),
-    }
-}
-
-fn in_image(apps: Apps, app: u16) -> bool
-    ensures { result ≡ test (app_at (apps_of (rows_in apps)) app) (λ a. a.image) }
-{
-    let place = tables::find_app(apps, app);
-    match place {
-        Place::Nothing => false,
-        Place::At(i) => {
-            let a = apps.entries[i];
-            a.image
-        }
+    match tables::known_of(d.apps, d.definitions, u16::from(permission)) {
+        Some(known) => (known.level == 1) & (u16::from(known.group) == group),
+        None => false,
     }
 }
 
 // ---- components and instances
 
-fn find_provider(parts: Parts, number: u16) -> Installed
-    ensures { result ≡ installed (provider (parts_view parts) number) }
+fn provider_of(parts: Parts, number: u16) -> Option<Part>
+    ensures { result ≡ option_of (provider (view_by [] [] (parts_in parts) []) number) }
 {
-    let place = tables::find_part(parts, number);
-    match place {
-        Place::Nothing => Installed::Missing,
-        Place::At(i) => {
-            let k = parts.entries[i];
-            if k.component.kind == 4 {
-                return Installed::Found(k);
-            }
-            Installed::Missing
-        }
-    }
+    tables::part_of(parts, number).filter(|k| k.component.kind == 4)
 }
 
-fn no_provider(parts: Parts, number: u16) -> bool
-    ensures { result ≡ missing (provider (parts_view parts) number) }
+fn startable(parts: Parts, number: u16) -> Option<Part>
+    ensures { result ≡ option_of (startable (view_by [] [] (parts_in parts) []) number) }
 {
-    let part = find_provider(parts, number);
-    match part {
-        Installed::Found(_) => false,
-        Installed::Missing => true,
-    }
-}
-
-fn find_startable(parts: Parts, number: u16) -> Installed
-    ensures { result ≡ installed (startable (parts_view parts) number) }
-{
-    let place = tables::find_part(parts, number);
-    match place {
-        Place::Nothing => Installed::Missing,
-        Place::At(i) => {
-            let k = parts.entries[i];
-            if k.component.kind == 4 {
-                return Installed::Missing;
-            }
-            Installed::Found(k)
-        }
-    }
-}
-
-fn not_startable(parts: Parts, number: u16) -> bool
-    ensures { result ≡ missing (startable (parts_view parts) number) }
-{
-    let part = find_startable(parts, number);
-    match part {
-        Installed::Found(_) => false,
-        Installed::Missing => true,
-    }
+    tables::part_of(parts, number).filter(|k| k.component.kind != 4)
 }
 
 // The person is always there.
-fn no_caller(apps: Apps, parts: Parts, instances: Instances, caller: u16) -> bool
-    ensures { result
-        ≡ not (eqb caller 0)
-        && missing (running_app (runs_view apps parts instances) caller) }
+fn no_caller(d: Device, caller: u16) -> bool
+    ensures { result ≡ not (eqb caller 0) && missing (running_app (view_in d []) caller) }
 {
-    if caller == 0 {
-        return false;
-    }
-    not_running(apps, parts, instances, caller)
-}
-
-fn may_not_start(d: Device, component: u16, caller: u16) -> bool
-    ensures { result ≡ test (startable (view_in d []) component) (λ k. barred (view_in d []) k caller) }
-{
-    let part = find_startable(d.parts, component);
-    match part {
-        Installed::Found(k) => barred(d, k, caller),
-        Installed::Missing => false,
-    }
+    (caller != 0) && tables::runner(d.apps, d.parts, d.instances, caller).is_none()
 }
 
 fn barred(d: Device, part: Part, caller: u16) -> bool
     ensures { result ≡ barred (view_in d []) part caller }
 {
     if caller == 0 {
-        return !((part.component.exported == 1) & (part.component.kind == 1));
+        return !person_may_start(part);
     }
-    let place = tables::running_app(d.apps, d.parts, d.instances, caller);
-    match place {
-        Place::Nothing => false,
-        Place::At(i) => {
-            let apps = d.apps;
-            let a = apps.entries[i];
-            !may_start(apps, d.definitions, a, part)
-        }
+    match tables::runner(d.apps, d.parts, d.instances, caller) {
+        Some(app) => !app_may_start(d, app, part),
+        None => false,
     }
+}
+
+fn person_may_start(part: Part) -> bool
+    ensures { result ≡ person_may_start part }
+{
+    (part.component.exported == 1) & (part.component.kind == 1)
 }
 
 // A component of its own app, or an exported one that its start permission allows.
-fn may_start(apps: Apps, definitions: Definitions, app: App, part: Part) -> bool
-    ensures { result ≡ app_may_start (permissions_view apps definitions) (row_of app).app part }
+fn app_may_start(d: Device, app: App, part: Part) -> bool
+    ensures { result ≡ app_may_start (view_in d []) (row_of app).app part }
 {
-    if app.number == part.app {
-        return true;
-    }
-    let c = part.component;
-    if c.exported != 1 {
-        return false;
-    }
-    tables::allows(apps, definitions, app, c.start)
-}
-
-fn not_sharing(parts: Parts, number: u16) -> bool
-    ensures { result ≡ test (provider (parts_view parts) number) (λ k. not (is_sharing k.component)) }
-{
-    let part = find_provider(parts, number);
-    match part {
-        Installed::Found(k) => k.component.shares != 1,
-        Installed::Missing => false,
-    }
-}
-
-fn not_running(apps: Apps, parts: Parts, instances: Instances, number: u16) -> bool
-    ensures { result ≡ missing (running_app (runs_view apps parts instances) number) }
-{
-    let place = tables::running_app(apps, parts, instances, number);
-    match place {
-        Place::At(_) => false,
-        Place::Nothing => true,
-    }
+    (app.number == part.app)
+        || (part.component.exported == 1
+            && tables::allows(d.apps, d.definitions, app, part.component.start))
 }
 
 // By the numbers 1 to 64, as instances are numbered.
-fn is_running(parts: Parts, instances: Instances, app: u16) -> bool
-    ensures { result ≡ is_running large (view_by [] [] (parts_in parts) (instances_in instances)) app }
+fn is_running(d: Device, app: u16) -> bool
+    ensures { result ≡ is_running large (view_in d []) app }
 {
-    let mut left: u16 = 64;
-    while 0 < left {
-        if runs_for(parts, instances, left, app) {
-            return true;
-        } else {
-            left -= 1;
-        }
-    }
-    false
+    (1..65).any(|n| runs_for(d, n, app))
 }
 
-fn runs_for(parts: Parts, instances: Instances, number: u16, app: u16) -> bool
-    ensures { result ≡ is_of (view_by [] [] (parts_in parts) (instances_in instances)) app number }
+// Is the instance of a number of the app? By the first component of its component's number.
+fn runs_for(d: Device, number: u16, app: u16) -> bool
+    ensures { result ≡ is_of (view_in d []) app number }
 {
-    let run = tables::find_instance(instances, number);
-    match run {
-        Place::Nothing => false,
-        Place::At(i) => {
-            let e = instances.entries[i];
-            owned_by(parts, e.component, app)
-        }
+    let Some(instance) = tables::instance_of(d.instances, number) else {
+        return false;
+    };
+    match tables::part_of(d.parts, instance.component) {
+        Some(part) => part.app == app,
+        None => false,
     }
 }
 
-// By the first component of the number.
-fn owned_by(parts: Parts, component: u16, app: u16) -> bool
-    ensures { result ≡ test ((parts_view parts).part component) (λ k. eqb k.app app) }
-{
-    let place = tables::find_part(parts, component);
-    match place {
-        Place::Nothing => false,
-        Place::At(i) => {
-            let k = parts.entries[i];
-            k.app == app
-        }
-    }
-}
-
-// ---- resources
-
-fn value_of(resources: Resources, provider: u16, uri: u16) -> Stored
-    ensures { result ≡ stored_of (value_in (resources_in resources) provider uri) }
-{
-    let place = tables::find_resource(resources, provider, uri);
-    match place {
-        Place::Nothing => Stored::Nothing,
-        Place::At(i) => {
-            let e = resources.entries[i];
-            Stored::Value(e.value)
-        }
-    }
-}
-
-fn no_resource(resources: Resources, provider: u16, uri: u16) -> bool
-    ensures { result ≡ missing (value_in (resources_in resources) provider uri) }
-{
-    !tables::has_resource(resources, provider, uri)
-}
+// ---- grounds
 
 // A done access names its ground and the stored value.
 fn access(
@@ -793,81 +417,20 @@ fn access(
 ) -> Answer
     ensures { result ≡ access_in (view_in d lent) provider instance uri (op_of operation) }
 {
-    let way = way_to(d, lent, provider, instance, uri, operation);
-    match way {
-        Way::NoProvider => Answer::Refused(Reason::NoSuchComponent),
-        Way::NoInstance => Answer::Refused(Reason::NoSuchInstance),
-        Way::By(g) => {
-            let stored = value_of(d.resources, provider, uri);
-            match stored {
-                Stored::Nothing => Answer::Refused(Reason::NoSuchResource),
-                Stored::Value(x) => {
-                    if is_ground(g) {
-                        return Answer::Done {
-                            ground: g,
-                            value: x,
-                        };
-                    }
-                    Answer::Refused(Reason::NotPermitted)
-                }
-            }
-        }
+    let part = provider_of(d.parts, provider).ok_or(Reason::NoSuchComponent)?;
+    let app = tables::runner(d.apps, d.parts, d.instances, instance).ok_or(Reason::NoSuchInstance)?;
+    let resource = tables::resource_of(d.resources, provider, uri).ok_or(Reason::NoSuchResource)?;
+    let ground = ground_of(d, lent, app, part, instance, uri, operation);
+    if ground == Ground::Nothing {
+        return Err(Reason::NotPermitted);
     }
+    Ok(Done {
+        ground,
+        value: resource.value,
+    })
 }
 
-// ---- grounds
-
-// By the right of the app or by a loan.
-fn way_to(
-    d: Device,
-    lent: [Loan; 128],
-    provider: u16,
-    instance: u16,
-    uri: u16,
-    operation: Operation,
-) -> Way
-    ensures { result ≡ way_to (view_in d lent) provider instance uri (op_of operation) }
-{
-    let part = find_provider(d.parts, provider);
-    match part {
-        Installed::Missing => Way::NoProvider,
-        Installed::Found(k) => {
-            let place = tables::running_app(d.apps, d.parts, d.instances, instance);
-            match place {
-                Place::Nothing => Way::NoInstance,
-                Place::At(i) => {
-                    let apps = d.apps;
-                    let a = apps.entries[i];
-                    let g = ground_of(d, lent, a, k, instance, uri, operation);
-                    Way::By(g)
-                }
-            }
-        }
-    }
-}
-
-// By the right of the app alone.
-fn way_by_right(d: Device, provider: u16, instance: u16, operation: Operation) -> Way
-    ensures { result ≡ way_by (view_in d []) provider instance (op_of operation) }
-{
-    let part = find_provider(d.parts, provider);
-    match part {
-        Installed::Missing => Way::NoProvider,
-        Installed::Found(k) => {
-            let place = tables::running_app(d.apps, d.parts, d.instances, instance);
-            match place {
-                Place::Nothing => Way::NoInstance,
-                Place::At(i) => {
-                    let apps = d.apps;
-                    let a = apps.entries[i];
-                    let g = tables::ground_right(apps, d.definitions, a, k, operation);
-                    Way::By(g)
-                }
-            }
-        }
-    }
-}
-
+// By the right of the app, or by a loan.
 fn ground_of(
     d: Device,
     lent: [Loan; 128],
@@ -880,137 +443,37 @@ fn ground_of(
     ensures { result ≡ ground (view_in d lent) instance (row_of app).app provider uri (op_of operation) }
 {
     let right = tables::ground_right(d.apps, d.definitions, app, provider, operation);
-    if is_ground(right) {
+    if right != Ground::Nothing {
         return right;
     }
-    let c = provider.component;
-    if is_lent(
-        lent,
-        d.lent,
-        Receiver::Instance(wider(instance)),
-        c.number,
-        uri,
-        operation,
-    ) {
+    let number = provider.component.number;
+    let to_instance = Receiver::Instance(u32::from(instance));
+    if is_lent(d, lent, to_instance, number, uri, operation) {
         return Ground::LoanToInstance;
     }
-    if is_lent(
-        lent,
-        d.lent,
-        Receiver::App(wider(app.number)),
-        c.number,
-        uri,
-        operation,
-    ) {
+    let to_app = Receiver::App(u32::from(app.number));
+    if is_lent(d, lent, to_app, number, uri, operation) {
         return Ground::LoanToApp;
     }
     Ground::Nothing
 }
 
-fn is_ground(ground: Ground) -> bool
-    ensures { result ≡ is_ground ground }
+// Has an operation that is asked for no ground, of those of reading and of writing?
+fn lacking(operations: u8, read: Ground, write: Ground) -> bool
+    ensures { result ≡ lacking operations (grounds read write) }
 {
-    match ground {
-        Ground::Nothing => false,
-        Ground::Owner => true,
-        Ground::Permission => true,
-        Ground::LoanToInstance => true,
-        Ground::LoanToApp => true,
-    }
+    (carries(operations, Operation::Read) & (read == Ground::Nothing))
+        | (carries(operations, Operation::Write) & (write == Ground::Nothing))
 }
 
-// Instance and provider are there, and the operation has no ground.
-fn closed(way: Way) -> bool
-    ensures { result ≡ is_closed way }
+#[tactic(auto, unfolding(rules::specs::Action::is_operations))]
+fn is_operations(operations: u8) -> bool
+    ensures { result ≡ is_operations operations }
 {
-    match way {
-        Way::NoProvider => false,
-        Way::NoInstance => false,
-        Way::By(g) => !is_ground(g),
-    }
+    (1..=3).contains(&operations)
 }
 
-fn lacks_ground(
-    d: Device,
-    lent: [Loan; 128],
-    operations: u8,
-    provider: u16,
-    instance: u16,
-    uri: u16,
-) -> bool
-    ensures { result ≡ lacking operations (ground_of (view_in d lent) provider instance uri) }
-{
-    if lacks_one(
-        d,
-        lent,
-        operations,
-        provider,
-        instance,
-        uri,
-        Operation::Read,
-    ) {
-        return true;
-    }
-    lacks_one(
-        d,
-        lent,
-        operations,
-        provider,
-        instance,
-        uri,
-        Operation::Write,
-    )
-}
-
-// Is the operation asked for, and has no ground?
-fn lacks_one(
-    d: Device,
-    lent: [Loan; 128],
-    operations: u8,
-    provider: u16,
-    instance: u16,
-    uri: u16,
-    operation: Operation,
-) -> bool
-    ensures { result ≡ lacks_one operations (ground_of (view_in d lent) provider instance uri) (op_of operation) }
-{
-    if has_operation(operations, operation) {
-        return closed(way_to(d, lent, provider, instance, uri, operation));
-    }
-    false
-}
-
-fn lacks_right(d: Device, operations: u8, provider: u16, instance: u16) -> bool
-    ensures { result ≡ lacking operations (right_of (view_in d []) provider instance) }
-{
-    if lacks_one_right(d, operations, provider, instance, Operation::Read) {
-        return true;
-    }
-    lacks_one_right(d, operations, provider, instance, Operation::Write)
-}
-
-fn lacks_one_right(
-    d: Device,
-    operations: u8,
-    provider: u16,
-    instance: u16,
-    operation: Operation,
-) -> bool
-    ensures { result ≡ lacks_one operations (right_of (view_in d []) provider instance) (op_of operation) }
-{
-    if has_operation(operations, operation) {
-        return closed(way_by_right(d, provider, instance, operation));
-    }
-    false
-}
-
-fn no_operations(operations: u8) -> bool
-    ensures { result ≡ not (is_operations operations) }
-{
-    !((1 <= operations) & (operations <= 3))
-}
-
-fn has_operation(operations: u8, operation: Operation) -> bool
+fn carries(operations: u8, operation: Operation) -> bool
     ensures { result ≡ carries (op_of operation) operations }
 {
     match operation {
@@ -1023,67 +486,83 @@ fn has_operation(operations: u8, operation: Operation) -> bool
 
 // Does a loan to the receiver on the resource carry the operation?
 fn is_lent(
+    d: Device,
     lent: [Loan; 128],
-    count: usize,
     receiver: Receiver,
     provider: u16,
     uri: u16,
     operation: Operation,
 ) -> bool
-    ensures { result ≡ lent_in (take count lent) (receiver_of receiver) provider uri (op_of operation) }
+    ensures { result ≡ (view_in d lent).lent (receiver_of receiver) provider uri (op_of operation) }
 {
-    let n = within(count, 128);
-    let mut i: usize = 0;
-    while i < n {
-        let x = lent[i];
-        if is_loan(x, receiver, provider, uri) & has_operation(x.operations, operation) {
-            return true;
-        } else {
-            i += 1;
-        }
+    let loans = loans_of(d, lent);
+    loans.held().iter().any(|x| is_loan(x, receiver, provider, uri)
+        && carries(x.operations, operation))
+}
+
+fn lent_any(d: Device, lent: [Loan; 128], receiver: Receiver, provider: u16, uri: u16) -> bool
+    ensures { result ≡ lent_any (view_in d lent) (receiver_of receiver) provider uri }
+{
+    is_lent(d, lent, receiver, provider, uri, Operation::Read)
+        || is_lent(d, lent, receiver, provider, uri, Operation::Write)
+}
+
+// The loans lent with the device.
+fn loans_of(d: Device, lent: [Loan; 128]) -> Table<Loan, 128>
+    ensures { list_in result ≡ take d.lent lent }
+{
+    Table {
+        entries: lent,
+        count: d.lent,
     }
-    false
 }
 
-fn lent_any(lent: [Loan; 128], count: usize, receiver: Receiver, provider: u16, uri: u16) -> bool
-    ensures { result
-        ≡ lent_in (take count lent) (receiver_of receiver) provider uri reading
-        || lent_in (take count lent) (receiver_of receiver) provider uri writing }
+fn is_full(d: Device, lent: [Loan; 128]) -> bool
+    ensures { result ≡ leb 128 (length (take d.lent lent)) }
 {
-    is_lent(lent, count, receiver, provider, uri, Operation::Read)
-        | is_lent(lent, count, receiver, provider, uri, Operation::Write)
+    128 <= loans_of(d, lent).held().len()
 }
 
-fn is_loan(loan: Loan, receiver: Receiver, provider: u16, uri: u16) -> bool
-    ensures { result ≡ is_loan (receiver_of receiver) provider uri loan }
+fn is_loan(loan: &Loan, receiver: Receiver, provider: u16, uri: u16) -> bool
+    ensures { result ≡ is_loan (receiver_of receiver) provider uri loan.now }
+{
+    ((loan.kind == kind(receiver)) & (u32::from(loan.receiver) == number(receiver)))
+        & ((loan.provider == provider) & (loan.uri == uri))
+}
+
+// A loan's kind of receiver.
+fn kind(receiver: Receiver) -> u8
+    ensures { result ≡ receiver_kind (receiver_of receiver) }
 {
     match receiver {
-        Receiver::Instance(n) => {
-            ((loan.kind == 1) & (wider(loan.receiver) == n))
-                & ((loan.provider == provider) & (loan.uri == uri))
-        }
-        Receiver::App(n) => {
-            ((loan.kind == 2) & (wider(loan.receiver) == n))
-                & ((loan.provider == provider) & (loan.uri == uri))
-        }
+        Receiver::Instance(_) => 1,
+        Receiver::App(_) => 2,
     }
 }
 
-fn no_receiving_app(apps: Apps, receiver: Receiver) -> bool
-    ensures { result ≡ no_receiving_app (view_by (rows_in apps) [] [] []) (receiver_of receiver) }
+fn number(receiver: Receiver) -> u32
+    ensures { result ≡ receiver_number (receiver_of receiver) }
+{
+    match receiver {
+        Receiver::Instance(n) => n,
+        Receiver::App(n) => n,
+    }
+}
+
+fn no_receiving_app(d: Device, receiver: Receiver) -> bool
+    ensures { result ≡ no_receiving_app (view_in d []) (receiver_of receiver) }
 {
     match receiver {
         Receiver::Instance(_) => false,
-        Receiver::App(n) => !has_wide_app(apps, n),
+        Receiver::App(n) => !has_wide_app(d.apps, n),
     }
 }
 
-fn no_receiving_instance(apps: Apps, parts: Parts, instances: Instances, receiver: Receiver) -> bool
-    ensures { result
-        ≡ no_receiving_instance (runs_view apps parts instances) (receiver_of receiver) }
+fn no_receiving_instance(d: Device, receiver: Receiver) -> bool
+    ensures { result ≡ no_receiving_instance (view_in d []) (receiver_of receiver) }
 {
     match receiver {
-        Receiver::Instance(n) => !wide_runs(apps, parts, instances, n),
+        Receiver::Instance(n) => wide_runner(d, n).is_none(),
         Receiver::App(_) => false,
     }
 }
@@ -1092,82 +571,20 @@ fn no_receiving_instance(apps: Apps, parts: Parts, instances: Instances, receive
 fn has_wide_app(apps: Apps, number: u32) -> bool
     ensures { result ≡ any (is_app number) (apps_in apps) }
 {
-    let n = within(apps.count, 16);
-    let mut i: usize = 0;
-    while i < n {
-        let a = apps.entries[i];
-        if wider(a.number) == number {
-            return true;
-        } else {
-            i += 1;
-        }
-    }
-    false
+    apps.held().iter().any(|a| u32::from(a.number) == number)
 }
 
-fn wide_runs(apps: Apps, parts: Parts, instances: Instances, number: u32) -> bool
-    ensures { result ≡ is_some (running_app (runs_view apps parts instances) number) }
+// The app of a running instance, at the width of a receiver.
+fn wide_runner(d: Device, number: u32) -> Option<App>
+    ensures { result ≡ option_of (runner_in (apps_in d.apps) (parts_in d.parts) (instances_in d.instances) number) }
 {
-    let run = find_wide_instance(instances, number);
-    match run {
-        Place::Nothing => false,
-        Place::At(i) => {
-            let e = instances.entries[i];
-            owner_installed(apps, parts, e.component)
-        }
-    }
-}
-
-fn owner_installed(apps: Apps, parts: Parts, component: u16) -> bool
-    ensures { result ≡ is_some (owner_in (view_by (rows_in apps) [] (parts_in parts) []) component) }
-{
-    let place = tables::find_part(parts, component);
-    match place {
-        Place::Nothing => false,
-        Place::At(i) => {
-            let k = parts.entries[i];
-            tables::has_app(apps, k.app)
-        }
-    }
-}
-
-fn find_wide_instance(instances: Instances, number: u32) -> Place
-    ensures { result ≡ place_of (is_instance number) (instances_in instances) }
-{
-    let n = within(instances.count, 64);
-    let mut i: usize = 0;
-    while i < n {
-        let e = instances.entries[i];
-        let k = wide(e.number);
-        if wider(k) == number {
-            return Place::At(i);
-        } else {
-            i += 1;
-        }
-    }
-    Place::Nothing
-}
-
-// ---- numbers
-
-// How many places of an array of `room` a count holds.
-fn within(count: usize, room: usize) -> usize
-    ensures { result ≡ min count room }
-{
-    if count < room {
-        return count;
-    }
-    room
-}
-
-fn wide(byte: u8) -> u16
-    ensures { result ≡ byte }
-{
-    byte as u16
-}
-
-fn wider(number: u16) -> u32
-    ensures { result ≡ number }
-{
-    number as u32
+    let instance = d
+        .instances
+        .list
+        .held()
+        .iter()
+        .find(|i| u32::from(i.number) == number)
+        .copied()?;
+    let part = tables::part_of(d.parts, instance.component)?;
+    tables::app_of(d.apps, part.app)
 }

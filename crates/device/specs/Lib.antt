@@ -1,7 +1,9 @@
+pub mod Closures
+pub mod Rising
 pub mod Tests
-pub mod ScanLaws
 pub mod PartLaws
 pub mod StoredLaws
 pub mod ValidLaws
 pub mod GrantLaws
+pub mod LookupLaws
 pub mod Unique

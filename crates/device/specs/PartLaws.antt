@@ -1,10 +1,9 @@
 -- What the component of a number says, where components have numbers of their own: who owns it, and what it is.
-use Rattle.std.specs.Prelude.{ℕ, zero, suc, ◌+◌, ◌-◌, ◌≤◌, ◌<◌, ◌≡◌, Bool, not, ◌&&◌, ◌||◌, cond, ltb, length, take}
-use Rattle.std.specs.Prelude.{get_or, set, replicate}
+use Rattle.std.specs.Prelude.{ℕ, ◌<◌, ◌≡◌, Bool, not, ◌&&◌, ◌||◌, cond, ltb}
 use Rattle.std.proofs.Math.Path.{refl, sym, ap}
-use Rattle.std.proofs.Common.{◌∙◌, not-suc-le-zero, le_of_suc-le-suc, add-one, arith, take-suc, length-take-le}
+use Rattle.std.proofs.Common.{◌∙◌, arith}
 use Rattle.std.proofs.Math.Bool.{true, false}
-use mathlib.Core.List.{List, [], ◌∷◌, ◌++◌, map}
+use mathlib.Core.List.{List, [], ◌∷◌, map}
 use Rattle.std.proofs.Math.Option.{Option, none, some}
 use borrow.Author.Tests.{ne_eqb, eqb-true, not-true}
 use Rattle.std.proofs.Math.Dec.{eqb}
@@ -15,10 +14,9 @@ use Rattle.rules.specs.declared.Part.{Part}
 use Rattle.rules.specs.Lists.{any, find, keep, distinct, or_else, test}
 use Rattle.rules.specs.ListsLaws.{eqb_same, and_left, and_right, and-true, and-false, or-false, flat}
 use Rattle.rules.specs.ListsLaws.{clashing, any-mono, any-map, any-keep, any-cong, find-any, none_any}
-use Rattle.rules.specs.ListsLaws.{length-map}
 use Rattle.state.specs.Tables.{part_at, owned_by}
 use Rattle.state.specs.Valid.{same_part}
-use Rattle.state.specs.Stored.{zero_part, padded}
+use Rattle.state.specs.Stored.{zero_part}
 use Rattle.device.specs.Tests.{part_or, components_of}
 
 -- some component of app a has the number c and passes: the one of that number does
@@ -89,68 +87,3 @@ part-test-or f z ks c = go (part_at ks c)
 pub map_same : {A : Type 0} (l : List A) → map (λ x. x) l ≡ l
 map_same [] = refl
 map_same (x ∷ l) = ap (λ (m : List _). x ∷ m) (map_same l)
-
--- ---- an array filled from the front: place i has what f says of the entry at i
-pub record Filled {A B : Type 0} (f : A → B) (z : B) (n : ℕ) (l : List A) (b i : ℕ) (to : List B) : Type 0 where
-  pub room : b ≤ length l
-  pub fits : b ≤ n
-  pub inside : i ≤ b
-  pub same : to ≡ padded z n (map f (take i l))
-
-set_next : {B : Type 0} (z v : B) (l : List B) (k : ℕ)
-    → set (l ++ replicate (suc k) z) (length l) v ≡ (l ++ (v ∷ [])) ++ replicate k z
-set_next z v [] k = refl
-set_next z v (x ∷ l) k = ap (λ (m : List _). x ∷ m) (set_next z v l k)
-
-map-one-more : {A B : Type 0} (f : A → B) (l : List A) (x : A) → map f (l ++ (x ∷ [])) ≡ map f l ++ (f x ∷ [])
-map-one-more f [] x = refl
-map-one-more f (y ∷ l) x = ap (λ (m : List _). f y ∷ m) (map-one-more f l x)
-
-module _ {A B : Type 0} {f : A → B} {z : B} {n : ℕ} {l : List A} {b : ℕ} where
-  pub filled-begin : {to : List B} → b ≤ length l → b ≤ n → to ≡ padded z n [] → Filled f z n l b 0 to
-  filled-begin h g e = record { room = h; fits = g; inside = omega arith; same = e }
-
-  pub filled_next : {i : ℕ} {to : List B} → Filled f z n l b i to → i < b → (d : A) (v : B) → v ≡ f (get_or l i d)
-      → Filled f z n l b (i + 1) (set to i v)
-  filled_next {i} {to} s h d v e = record {
-    room = s.room;
-    fits = s.fits;
-    inside = omega arith;
-    same = ap (λ (m : List B). set m i v) s.same ∙ go;
-  }
-    where
-      k : ℕ
-      k = n - (i + 1)
-
-      long : length (map f (take i l)) ≡ i
-      long = length-map f (take i l) ∙ length-take-le i l (omega (arith, s.room))
-
-      gap : n - length (map f (take i l)) ≡ suc k
-      gap = rw long (omega (arith, s.fits))
-
-      more : map f (take (i + 1) l) ≡ map f (take i l) ++ (v ∷ [])
-      more = rw (add-one i, take-suc l i d (omega (arith, s.room)), map-one-more f (take i l) (get_or l i d), e)
-
-      gap' : n - length (map f (take i l) ++ (v ∷ [])) ≡ k
-      gap' =
-          let w = snoc-length (map f (take i l)) in
-          omega (arith, long)
-        where
-          snoc-length : (m : List B) → length (m ++ (v ∷ [])) ≡ suc (length m)
-          snoc-length [] = refl
-          snoc-length (x ∷ m) = ap suc (snoc-length m)
-
-      go : set (padded z n (map f (take i l))) i v ≡ padded z n (map f (take (i + 1) l))
-      go = ap (λ (m : ℕ). set (map f (take i l) ++ replicate m z) i v) gap
-          ∙ ap (λ (j : ℕ). set (map f (take i l) ++ replicate (suc k) z) j v) (sym long)
-          ∙ set_next z v (map f (take i l)) k
-          ∙ ap (λ (m : ℕ). (map f (take i l) ++ (v ∷ [])) ++ replicate m z) (sym gap')
-          ∙ ap (λ (m : List B). padded z n m) (sym more)
-
--- what stands at a place of it
-pub filled_at : {A B : Type 0} (f : A → B) (z : B) (rest : List B) (d : A) (l : List A) (b i : ℕ) → i < b → i < length l
-    → get_or (map f (take b l) ++ rest) i z ≡ f (get_or l i d)
-filled_at f z rest d [] b i h g = absurd (not-suc-le-zero g)
-filled_at f z rest d (x ∷ l) zero i h g = absurd (not-suc-le-zero h)
-filled_at f z rest d (x ∷ l) (suc b) zero h g = refl
-filled_at f z rest d (x ∷ l) (suc b) (suc i) h g = filled_at f z rest d l b i (le_of_suc-le-suc h) (le_of_suc-le-suc g)

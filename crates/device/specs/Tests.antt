@@ -1,12 +1,12 @@
 -- What an app's manifest would have, from the tables; and the tests of a valid state as the code makes them, all tests
 -- of an entry together. Document 01, "A valid state".
-use Rattle.std.specs.Prelude.{ℕ, zero, suc, ◌≤◌, ◌≡◌, Bool, true, false, not, ◌&&◌, ◌||◌, List, [], ◌∷◌, map, eqb, leb}
+use Rattle.std.specs.Prelude.{ℕ, zero, suc, Bool, false, not, ◌&&◌, ◌||◌, List, [], ◌∷◌, map, eqb, leb}
 use Rattle.std.specs.Prelude.{ltb, get_or}
 use Rattle.manifest.specs.declared.Define.{Define}
 use Rattle.manifest.specs.declared.Component.{Component}
 use Rattle.manifest.specs.declared.Resource.{Resource}
 use Rattle.manifest.specs.Layout.{Manifest}
-use Rattle.manifest.specs.Good.{good, is_provider}
+use Rattle.manifest.specs.Good.{good, good_uses, good_defines, good_components, resource_key, is_provider}
 use Rattle.rules.specs.declared.Definition.{Definition}
 use Rattle.rules.specs.declared.Part.{Part}
 use Rattle.rules.specs.declared.Instance.{Instance}
@@ -19,13 +19,13 @@ use Rattle.rules.specs.Refusals.{grantable, is_group}
 use Rattle.state.specs.Tables.{Row, State, app_number, part_at, owned_by, is_resource}
 use Rattle.state.specs.Valid.{is_installed, is_sharing_provider, same_app, same_part, same_resource, same_permission}
 use Rattle.state.specs.Valid.{same_instance, same_loan}
-use Rattle.state.specs.Stored.{zero_part, app_pads}
-use Rattle.state.specs.declared.Apps.{Apps}
-use Rattle.state.specs.declared.Definitions.{Definitions}
-use Rattle.state.specs.declared.Parts.{Parts}
-use Rattle.state.specs.declared.Resources.{Resources}
-use Rattle.tables.specs.Held.{apps_in, parts_in}
+use Rattle.state.specs.Stored.{zero_part, is_zero_app, is_zero_definition, is_zero_part, is_zero_resource}
+use Rattle.state.specs.Stored.{is_zero_instance, app_pads, pads, mask_of}
+use Rattle.state.specs.declared.Device.{Device}
+use Rattle.tables.specs.Held.{apps_in, rows_in, definitions_in, parts_in, resources_in, instances_in}
 use Rattle.tables.specs.Looking.{view_by}
+use Rattle.device.specs.declared.Provided.{Provided}
+use Rattle.device.specs.Rising.{few_rising}
 
 -- ---- what an app's manifest would have
 abbrev pub defines_of : ℕ → List Definition → List Define
@@ -71,9 +71,14 @@ good_grant_by ts a p = mem p a.uses && get_or ts p false
 abbrev pub part_or : List Part → ℕ → Part
 part_or ks c = or_else zero_part (part_at ks c)
 
--- the app of each resource's provider
-abbrev pub owners_in : List Part → List Resource → List ℕ
-owners_in ks rs = map (λ r. (part_or ks r.provider).app) rs
+-- a resource with the component of its provider's number
+abbrev pub with_provider : List Part → Resource → Provided
+with_provider ks r = record { provider = part_or ks r.provider; resource = r }
+
+abbrev pub good_provided : ℕ → List Provided → Bool
+good_provided b ps =
+    few_rising (λ p. eqb p.provider.app b) (λ p. resource_key p.resource)
+    (λ p. ltb 0 p.resource.uri && is_provider p.provider.component) 32 0 ps
 
 -- ---- all tests of an instance, and of a loan but that it is the only one
 abbrev pub good_instance : List Part → Instance → Bool
@@ -126,11 +131,43 @@ good_lists s =
     && (good_runs s.parts s.instances
     && good_lending s.rows s.parts s.resources s.instances s.loans))))
 
--- what the tests before have told when the apps are tested
-pub record AppsReady (apps : Apps) (definitions : Definitions) (parts : Parts) (resources : Resources) : Type 0 where
-  pub apps_count : apps.count ≤ 16
-  pub definitions_count : definitions.count ≤ 256
-  pub parts_count : parts.count ≤ 64
-  pub resources_count : resources.count ≤ 128
-  pub lists : all app_pads (apps_in apps) ≡ true
-  pub numbers : distinct same_part (parts_in parts) ≡ true
+-- ---- the same by what the code looks up once: the resources with their providers, and the dangerous permissions
+abbrev pub good_manifest_by : List Definition → List Part → List Provided → App → Bool
+good_manifest_by ds ks ps a =
+    ltb 0 a.number
+    && (ltb 0 a.signer
+    && (good_uses a.uses
+    && (good_defines (defines_of a.number ds)
+    && (good_components (components_of a.number ks) && good_provided a.number ps))))
+
+abbrev pub good_row_by : List Definition → List Part → List Provided → List Bool → Row → Bool
+good_row_by ds ks ps ts r =
+    good_manifest_by ds ks ps r.app
+    && (all (good_grant_by ts r.app) r.grants
+    && (all is_group r.groups && (distinct eqb r.grants && distinct eqb r.groups)))
+
+abbrev pub good_rows_by : List Row → List Definition → List Part → List Resource → Bool
+good_rows_by rs ds ks us = all (good_row_by ds ks (map (with_provider ks) us) (dangerous_in rs ds)) rs
+
+abbrev pub good_lists_by : Device → List Loan → Bool
+good_lists_by d ls =
+    let rs = rows_in d.apps in
+    let ds = definitions_in d.definitions in
+    let ks = parts_in d.parts in
+    let us = resources_in d.resources in
+    let is = instances_in d.instances in
+    good_numbers rs ks us
+    && (good_owners rs ds ks us
+    && (distinct same_permission ds
+    && (good_rows_by rs ds ks us && (good_runs ks is && good_lending rs ks us is ls))))
+
+-- ---- the padding of the tables in the device
+abbrev pub formed_tables : Device → Bool
+formed_tables d =
+    pads is_zero_app 16 d.apps.entries d.apps.count
+    && (all app_pads (apps_in d.apps)
+    && (pads is_zero_definition 256 d.definitions.entries d.definitions.count
+    && (pads is_zero_part 64 d.parts.entries d.parts.count
+    && (pads is_zero_resource 128 d.resources.entries d.resources.count
+    && (pads is_zero_instance 64 d.instances.list.entries d.instances.list.count
+    && eqb d.instances.running (mask_of (instances_in d.instances)))))))

@@ -32,7 +32,6 @@ test-false (some x) = refl
 -- ---- several tests of every entry
 module _ {A : Type 0} where
   all_two : (f g : A → Bool) (l : List A) → all (λ x. f x && g x) l ≡ all f l && all g l
-  unfolding all
   all_two f g [] = refl
   all_two f g (x ∷ l) = rw (all_two f g l) (go (f x) (g x) (all f l) (all g l))
     where
@@ -135,6 +134,6 @@ within d lent c = record {
       (few d.apps.count 16 d.apps.entries c.apps);
   parts = few d.parts.count 64 d.parts.entries c.parts;
   resources = few d.resources.count 128 d.resources.entries c.resources;
-  instances = few d.instances.count 64 d.instances.entries c.instances;
+  instances = few d.instances.list.count 64 d.instances.list.entries c.instances;
   loans = few d.lent 128 lent c.loans;
 }

@@ -1,6 +1,6 @@
 -- A state and the done actions that led to it agree: question by question, and in every count whatever comes later.
 -- The fresh device agrees with no actions, every done action keeps it, and so the two views of every run are one.
-use Rattle.std.specs.Prelude.{ℕ, ◌+◌, ◌≡◌, refl, Bool, ◌&&◌, ◌||◌, List, [], ◌∷◌, map, eqb}
+use Rattle.std.specs.Prelude.{ℕ, ◌+◌, ◌≡◌, refl, Bool, ◌&&◌, ◌||◌, List, [], ◌∷◌, map, eqb, Result}
 use Rattle.std.proofs.Common.{sym, ◌∙◌}
 use Rattle.std.proofs.Math.Path.{ap, fun_ext}
 use Rattle.std.proofs.Math.Bool.{true, false, not}
@@ -8,13 +8,11 @@ use Rattle.std.proofs.lemmas.Bool.{false≢true}
 use Rattle.std.proofs.Math.ListN.{length}
 use Rattle.rules.specs.declared.Loan.{Loan}
 use Rattle.rules.specs.declared.Ground.{Ground}
-use Rattle.rules.specs.declared.Answer.{Answer}
-use Rattle.rules.specs.declared.Answer.TheVariants.{Done, Refused}
 use Rattle.rules.specs.Lists.{any, keep, find, bind, map_option}
 use Rattle.rules.specs.ListsLaws.{keep-mem, length-map, all-mono, and_left, and-true, or-true}
 use Rattle.rules.specs.Limits.{Limits}
 use Rattle.rules.specs.Action.{Receiver, Op, reading, writing, Action}
-use Rattle.rules.specs.Answer.{answer}
+use Rattle.rules.specs.Answer.{Answer, done, answer}
 use Rattle.rules.specs.DoneLaws.{lends_some_lem}
 use Rattle.state.specs.Tables.{State, fresh, apps_of, app_at, part_at, defined_in, granted_in, grouped_in, run_in}
 use Rattle.state.specs.Tables.{value_in}
@@ -61,7 +59,7 @@ pub record Agrees (s : State) (h : List Past) : Type 0 where
 
 begin : Agrees fresh []
 unfolding fresh log_app log_part log_defined log_runs log_granted log_grouped log_lent log_value total app_at part_at
-    defined_in run_in granted_in grouped_in lent_in value_in find keep bind map_option
+    defined_in run_in granted_in grouped_in lent_in value_in find bind map_option
 begin =
     record {
       app = λ n. refl;
@@ -96,7 +94,7 @@ fine L s ok = record {
         (is_installed s.rows x.receiver) e
 
 module _ (L : Limits) (s : State) (h : List Past) (ok : Ok L s) (a : Agrees s h) (x : Action) (g : Ground) (v : ℕ)
-    (e : answer L (view_of s) x ≡ Done g v) where
+    (e : answer L (view_of s) x ≡ done g v) where
   lent-next : (r : Receiver) (p u : ℕ) (op : Op)
       → lent_in (loans_after s.parts s.loans x) r p u op ≡ lent_by (log_part h p) x r p u op (log_lent h r p u op)
   lent-next r p u op =
@@ -169,9 +167,9 @@ agrees L (x ∷ xs) = go (answer L (view_of (device L xs)) x) refl (agrees L xs)
   where
     go : (r : Answer) → answer L (view_of (device L xs)) x ≡ r → Agrees (device L xs) (history (log L xs))
         → Agrees (after (device L xs) x r) (counted x r (history (log L xs)))
-    go (Refused n) e a = a
-    go (Done g v) e a =
-        step L (device L xs) (history (log L xs)) (valid→ok L (device L xs) (reached-valid L xs)) a x g v e
+    go (Result.Err n) e a = a
+    go (Result.Ok d) e a =
+        step L (device L xs) (history (log L xs)) (valid→ok L (device L xs) (reached-valid L xs)) a x d.ground d.value e
 
 -- one path between the two views
 pub same-views : (L : Limits) (s : State) (h : List Past) → Ok L s → Agrees s h → view_of s ≡ view_of_log h

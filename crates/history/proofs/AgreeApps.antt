@@ -15,7 +15,6 @@ use Rattle.rules.specs.declared.Definition.{Definition}
 use Rattle.rules.specs.declared.Part.{Part}
 use Rattle.rules.specs.declared.Known.{Known}
 use Rattle.rules.specs.declared.Ground.{Ground}
-use Rattle.rules.specs.declared.Answer.TheVariants.{Done}
 use Rattle.rules.specs.Lists.{any, all, keep, find, distinct, is_some, test, bind, map_option, or_find}
 use Rattle.rules.specs.ListsLaws.{all_found, find-append, find-map, find-holds, find-any, none_any, any-map, any-mono}
 use Rattle.rules.specs.ListsLaws.{by_eqb, eqb-sym, eqb_same, flat, clashing}
@@ -23,7 +22,7 @@ use Rattle.rules.specs.Limits.{Limits}
 use Rattle.rules.specs.Action.{install, uninstall, Action, on_apps, on_grants, on_runs, write, on_loans, query}
 use Rattle.rules.specs.View.{App, app_of, part_of, definition_of}
 use Rattle.rules.specs.Permissions.{built_in, known, known_by}
-use Rattle.rules.specs.Answer.{answer}
+use Rattle.rules.specs.Answer.{done, answer}
 use Rattle.rules.specs.DoneLaws.{install-new, nothing}
 use Rattle.state.specs.Tables.{Row, State, apps_of, app_at, part_at, defined_by, known_from, defined_in, view_of}
 use Rattle.state.specs.Effects.{apps_after, definitions_after, parts_after}
@@ -44,11 +43,11 @@ app-gone : (apps : List App) (b n : ℕ)
 unfolding app_at
 app-gone apps b n = find-gone (λ a. a.number) apps b n
 
-pub app-step : (L : Limits) (s : State) (x : Action) (g : Ground) (v : ℕ) → answer L (view_of s) x ≡ Done g v → (n : ℕ)
+pub app-step : (L : Limits) (s : State) (x : Action) (g : Ground) (v : ℕ) → answer L (view_of s) x ≡ done g v → (n : ℕ)
     → app_at (apps_of (apps_after s.definitions s.rows x)) n ≡ app_by x n (app_at (apps_of s.rows) n)
 app-step L s x g v e n = ap (λ (apps : List App). app_at apps n) (apps-after s.definitions s.rows x) ∙ go x e
   where
-    go : (x : Action) → answer L (view_of s) x ≡ Done g v
+    go : (x : Action) → answer L (view_of s) x ≡ done g v
         → app_at (installed_after (apps_of s.rows) x) n ≡ app_by x n (app_at (apps_of s.rows) n)
     go (on_apps (install i m)) e = unfold installed_after app_by view_of in
         app-new (apps_of s.rows) (app_of i m) n (install-new L (view_of s) g v i m e).app
@@ -82,7 +81,7 @@ part-new ks m c new = find-append (λ k. eqb k.component.number c) ks (map (part
         (not_taken (λ k. k.number) (λ c. is_some (part_at ks c)) m.components c new
         (find-any (λ k. eqb k.number c) m.components k e))
 
-pub part_step : (L : Limits) (s : State) (x : Action) (g : Ground) (v : ℕ) → answer L (view_of s) x ≡ Done g v → Ok L s
+pub part_step : (L : Limits) (s : State) (x : Action) (g : Ground) (v : ℕ) → answer L (view_of s) x ≡ done g v → Ok L s
     → (c : ℕ) → part_at (parts_after s.parts x) c ≡ part_by x c (part_at s.parts c)
 unfolding parts_after part_by view_of
 part_step L s (on_apps (install i m)) g v e ok c =
@@ -211,7 +210,7 @@ known-defined : (s : State) (p : ℕ) → is_some (defined_in (apps_of s.rows) s
 unfolding known view_of
 known-defined s p h = or_some (built_in p) (defined_in (apps_of s.rows) s.definitions p) h
 
-pub defined-step : (L : Limits) (s : State) (x : Action) (g : Ground) (v : ℕ) → answer L (view_of s) x ≡ Done g v
+pub defined-step : (L : Limits) (s : State) (x : Action) (g : Ground) (v : ℕ) → answer L (view_of s) x ≡ done g v
     → Ok L s → (p : ℕ)
     → defined_in (apps_of (apps_after s.definitions s.rows x)) (definitions_after s.definitions x) p
     ≡ define_by x p (defined_in (apps_of s.rows) s.definitions p)
@@ -226,7 +225,7 @@ defined-step L s x g v e ok p =
     is_known : (d : Define) → by_app d ≡ true → is_some (known (view_of s) d.permission) ≡ true
     is_known d h = known-defined s d.permission h
 
-    go : (x : Action) → answer L (view_of s) x ≡ Done g v
+    go : (x : Action) → answer L (view_of s) x ≡ done g v
         → defined_in (installed_after (apps_of s.rows) x) (definitions_after s.definitions x) p
         ≡ define_by x p (defined_in (apps_of s.rows) s.definitions p)
     go (on_apps (install i m)) e =

@@ -16,7 +16,6 @@ use Rattle.manifest.specs.declared.Resource.{Resource}
 use Rattle.rules.specs.declared.Part.{Part}
 use Rattle.rules.specs.declared.Instance.{Instance}
 use Rattle.rules.specs.declared.Ground.{Ground}
-use Rattle.rules.specs.declared.Answer.TheVariants.{Done}
 use Rattle.rules.specs.Lists.{any, all, keep, find, distinct, is_some, test, bind, map_option, or_find}
 use Rattle.rules.specs.ListsLaws.{find-append, all-mem, any-mono, none_any, keep_append, keep-keep, keep-map, keep-mem}
 use Rattle.rules.specs.ListsLaws.{keep_all, none_kept, length-map, eqb-sym, and_left, clashing}
@@ -24,7 +23,7 @@ use Rattle.rules.specs.Limits.{Limits}
 use Rattle.rules.specs.Action.{install, uninstall, start, stop, Action, on_apps, on_grants, on_runs, write, on_loans}
 use Rattle.rules.specs.Action.{query}
 use Rattle.rules.specs.View.{App, app_of, part_of}
-use Rattle.rules.specs.Answer.{answer}
+use Rattle.rules.specs.Answer.{done, answer}
 use Rattle.rules.specs.DoneLaws.{install-good, install-new, provided}
 use Rattle.state.specs.Tables.{State, part_at, owned_by, view_of}
 use Rattle.state.specs.Effects.{parts_after, put, resources_after, instances_after}
@@ -54,7 +53,6 @@ module _ (ends : ℕ → Action → Bool) where
   left-more : {A : Type 0} (number : A → ℕ) (newer : List Past) (l : List A) (x : A)
       → left number newer (l ++ (x ∷ []))
       ≡ cond (any (λ e. ends (number x) e.action) newer) 0 1 + left number newer l
-  unfolding keep
   left-more number newer l x = left-append number newer l (x ∷ [])
       ∙ add_comm (left number newer l) (left number newer (x ∷ []))
       ∙ ap (λ (n : ℕ). n + left number newer l) (one (any (λ e. ends (number x) e.action) newer))
@@ -227,7 +225,7 @@ module _ (ks : List Part) (rs : List Resource) (newer : List Past) where
           pick false = unfold test in refl
 
 pub resources-count : (L : Limits) (s : State) (newer : List Past) (x : Action) (g : Ground) (v : ℕ)
-    → answer L (view_of s) x ≡ Done g v → Ok L s
+    → answer L (view_of s) x ≡ done g v → Ok L s
     → left_resources (parts_after s.parts x) newer (resources_after s.parts s.resources x)
     ≡ installed (λ m. length m.resources) newer x
     + left_resources s.parts (record { action = x; value = v } ∷ newer) s.resources

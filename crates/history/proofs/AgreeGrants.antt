@@ -2,14 +2,13 @@
 use Rattle.std.specs.Prelude.{ℕ, ◌≡◌, refl, Bool, true, false, not, ◌&&◌, ◌||◌, cond, List, eqb}
 use Rattle.std.proofs.Common.{sym, ap, ◌∙◌}
 use Rattle.rules.specs.declared.Ground.{Ground}
-use Rattle.rules.specs.declared.Answer.TheVariants.{Done}
 use Rattle.rules.specs.Lists.{keep, mem, is_some}
 use Rattle.rules.specs.ListsLaws.{any_append, any-map, mem-none, or-false, and-false, find-any, mark-add, mark-drop}
 use Rattle.rules.specs.ListsLaws.{mark-remove, mark-thing}
 use Rattle.rules.specs.Limits.{Limits}
 use Rattle.rules.specs.Action.{install, uninstall, grant, revoke, grant_group, revoke_group, Action, on_apps, on_grants}
 use Rattle.rules.specs.Action.{on_runs, write, on_loans, query}
-use Rattle.rules.specs.Answer.{answer}
+use Rattle.rules.specs.Answer.{done, answer}
 use Rattle.rules.specs.DoneLaws.{grant-app, group-app, is-some}
 use Rattle.state.specs.Tables.{Row, State, app_number, apps_of, app_at, defined_by, defined_in, granted_in, grouped_in}
 use Rattle.state.specs.Tables.{view_of}
@@ -39,7 +38,7 @@ others s b = keep (λ r. not (eqb (app_number r) b)) s.rows
 abbrev less_grants : State → ℕ → Row → Row
 less_grants s b = keep_grants (λ p. not (defined_by s.definitions b p))
 
-pub granted-step : (L : Limits) (s : State) (x : Action) (g : Ground) (v : ℕ) → answer L (view_of s) x ≡ Done g v
+pub granted-step : (L : Limits) (s : State) (x : Action) (g : Ground) (v : ℕ) → answer L (view_of s) x ≡ done g v
     → Ok L s → (a p : ℕ) → granted_in (apps_after s.definitions s.rows x) a p
     ≡ grant_by (defined_in (apps_of s.rows) s.definitions p) x a p (granted_in s.rows a p)
 unfolding granted_in apps_after grant_by grants_at groups_at keep_grants view_of
@@ -59,7 +58,7 @@ granted-step L s (write q n u x) g v e ok a p = refl
 granted-step L s (on_loans z) g v e ok a p = refl
 granted-step L s (query z) g v e ok a p = refl
 
-pub grouped-step : (L : Limits) (s : State) (x : Action) (g : Ground) (v : ℕ) → answer L (view_of s) x ≡ Done g v
+pub grouped-step : (L : Limits) (s : State) (x : Action) (g : Ground) (v : ℕ) → answer L (view_of s) x ≡ done g v
     → (a p : ℕ) → grouped_in (apps_after s.definitions s.rows x) a p ≡ group_by x a p (grouped_in s.rows a p)
 unfolding grouped_in apps_after group_by grants_at groups_at keep_grants view_of
 grouped-step L s (on_apps (install i m)) g v e a p = simp (any_append, mem-none, and-false, or-false)

@@ -38,7 +38,6 @@ left_pairs still newer ls = length (keep (λ k. still k && not (later newer k)) 
 -- at most one entry of a list is hit: it, and the others
 split_one : {A : Type 0} (f hit : A → Bool) (c : Bool) → ((x : A) → hit x ≡ true → f x ≡ c) → (l : List A) → Only hit l
     → any hit l ≡ true → length (keep f l) ≡ cond c 1 0 + length (keep (λ x. f x && not (hit x)) l)
-unfolding keep
 split_one f hit c is [] o e = absurd (false≢true e)
 split_one {A} f hit c is (x ∷ l) o e = go (hit x) refl e (split_one f hit c is l o.1)
   where
@@ -155,9 +154,9 @@ module _ (still : Pair → Bool) (newer : List Past) (v : ℕ) where
       go : (t : Bool) → some_in ls pair ≡ t
           → length (keep (λ x. lasts (pair_of x)) ls) + length (keep lasts (cond t [] (pair ∷ [])))
           ≡ cond (lasts pair) 1 0 + length rest
-      go true e = unfold keep in (add-zero _ ∙ split_one (λ x. lasts (pair_of x)) (is_loan r p u) (lasts pair)
+      go true e = (add-zero _ ∙ split_one (λ x. lasts (pair_of x)) (is_loan r p u) (lasts pair)
           (λ x h. ap lasts (pair_is r p u x (alike r p u x h))) ls (only-loan ls fine r p u) (hits ∙ e))
-      go false e = unfold keep in rw (one (lasts pair)) (add_comm (length (keep (λ x. lasts (pair_of x)) ls)) _
+      go false e = rw (one (lasts pair)) (add_comm (length (keep (λ x. lasts (pair_of x)) ls)) _
           ∙ ap (λ (l : List Loan). cond (lasts pair) 1 0 + length l)
           (keep-mem (λ x. lasts (pair_of x)) (λ x. lasts (pair_of x) && not (is_loan r p u x)) ls
           (λ x m. rw (none-mem (is_loan r p u) m (hits ∙ e)) (sym (and-true (lasts (pair_of x)))))))
@@ -187,13 +186,13 @@ module _ (still : Pair → Bool) (newer : List Past) (v : ℕ) where
 
       go : (x : Action) → length (keep lasts (map pair_of ls)) + length (keep lasts (added (some_in ls) x))
           ≡ lasting still newer x + left_pairs still (record { action = x; value = v } ∷ newer) ls
-      go (on_apps z) = unfold added lasting lends keep in same
-      go (on_grants z) = unfold added lasting lends keep in same
-      go (on_runs z) = unfold added lasting lends keep in same
-      go (write p n u y) = unfold added lasting lends keep in same
+      go (on_apps z) = unfold added lasting lends in same
+      go (on_grants z) = unfold added lasting lends in same
+      go (on_runs z) = unfold added lasting lends in same
+      go (write p n u y) = unfold added lasting lends in same
       go (on_loans (lend o p n u r)) = lent-count ls fine o p n u r
-      go (on_loans (withdraw o p n u)) = unfold added lasting lends keep in same
-      go (query z) = unfold added lasting lends keep in same
+      go (on_loans (withdraw o p n u)) = unfold added lasting lends in same
+      go (query z) = unfold added lasting lends in same
 
 -- what is lent after an action that does not lend it was lent before
 ended : (t was : Bool) → cond t false was ≡ true → was ≡ true

@@ -165,8 +165,8 @@ module _ (ls : List Loan) (fine : Fine ls) (o p u : ℕ) (r : Receiver) (full : 
   }
     where
       new : (r : Receiver) → all of_kind (loan_of r p u o ∷ []) ≡ true
-      new (an_instance n) = unfold all loan_of receiver_kind in refl
-      new (an_app b) = unfold all loan_of receiver_kind in refl
+      new (an_instance n) = unfold loan_of receiver_kind in refl
+      new (an_app b) = unfold loan_of receiver_kind in refl
 
       kinds : (t : Bool) → all of_kind (lent t) ≡ true
       kinds true = unfold widened with_operations in (all_map of_kind (widened r p u o) ls ∙ fine.kinds)

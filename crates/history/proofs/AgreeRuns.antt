@@ -4,11 +4,10 @@ use Rattle.std.proofs.Common.{ap, ◌∙◌}
 use Rattle.std.proofs.Math.Option.{Option, none, some}
 use Rattle.rules.specs.declared.Instance.{Instance}
 use Rattle.rules.specs.declared.Ground.{Ground}
-use Rattle.rules.specs.declared.Answer.TheVariants.{Done}
 use Rattle.rules.specs.Lists.{keep, find, map_option}
 use Rattle.rules.specs.Limits.{Limits}
 use Rattle.rules.specs.Action.{start, stop, Action, on_apps, on_grants, on_runs, write, on_loans, query}
-use Rattle.rules.specs.Answer.{answer}
+use Rattle.rules.specs.Answer.{done, answer}
 use Rattle.rules.specs.DoneLaws.{start-free}
 use Rattle.state.specs.Tables.{State, run_in, view_of}
 use Rattle.state.specs.Effects.{instances_after}
@@ -43,7 +42,7 @@ stopped is k n = ap (map_option (λ i. i.component)) (find-gone (λ i. i.number)
     go true = refl
     go false = refl
 
-pub runs-step : (L : Limits) (s : State) (x : Action) (g : Ground) (v : ℕ) → answer L (view_of s) x ≡ Done g v → (n : ℕ)
+pub runs-step : (L : Limits) (s : State) (x : Action) (g : Ground) (v : ℕ) → answer L (view_of s) x ≡ done g v → (n : ℕ)
     → run_in (instances_after s.instances x v) n ≡ run_by x v n (run_in s.instances n)
 unfolding instances_after run_by view_of
 runs-step L s (on_apps z) g v e n = refl

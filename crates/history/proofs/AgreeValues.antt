@@ -11,14 +11,13 @@ use Rattle.manifest.specs.Good.{is_provider, is_provider_of}
 use Rattle.manifest.specs.declared.Resource.{Resource}
 use Rattle.rules.specs.declared.Part.{Part}
 use Rattle.rules.specs.declared.Ground.{Ground}
-use Rattle.rules.specs.declared.Answer.TheVariants.{Done}
 use Rattle.rules.specs.Lists.{any, all, keep, find, is_some, map_option, or_find}
 use Rattle.rules.specs.ListsLaws.{find-append, find-map, find-keep, find-cong, find-and, find-holds, find-any}
 use Rattle.rules.specs.ListsLaws.{find_none, all_any, any-mono, none_any, eqb-sym, and-false, and_left, and_right, flat}
 use Rattle.rules.specs.ListsLaws.{clashing}
 use Rattle.rules.specs.Limits.{Limits}
 use Rattle.rules.specs.Action.{install, uninstall, Action, on_apps, on_grants, on_runs, write, on_loans, query}
-use Rattle.rules.specs.Answer.{answer}
+use Rattle.rules.specs.Answer.{done, answer}
 use Rattle.rules.specs.DoneLaws.{install-good, install-new, provided, write-there, nothing}
 use Rattle.state.specs.Tables.{State, part_at, owned_by, is_resource, value_in, view_of}
 use Rattle.state.specs.Effects.{put, resources_after}
@@ -114,7 +113,7 @@ module _ (ks : List Part) (rs : List Resource) (m : Manifest)
           old (some r) = refl
       go (some r) e = rw (find_none (is_resource p u) rs (unheard p u (among p u r e)))
 
-pub value-step : (L : Limits) (s : State) (x : Action) (g : Ground) (v : ℕ) → answer L (view_of s) x ≡ Done g v → Ok L s
+pub value-step : (L : Limits) (s : State) (x : Action) (g : Ground) (v : ℕ) → answer L (view_of s) x ≡ done g v → Ok L s
     → (p u : ℕ) → value_in (resources_after s.parts s.resources x) p u
     ≡ value_by (part_at s.parts p) x p u (value_in s.resources p u)
 unfolding resources_after value_by view_of

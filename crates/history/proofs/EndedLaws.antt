@@ -12,8 +12,6 @@ use Rattle.rules.specs.declared.Known.{Known}
 use Rattle.rules.specs.declared.Part.{Part}
 use Rattle.rules.specs.declared.Ground.{Ground}
 use Rattle.rules.specs.declared.Ground.TheVariants.{Nothing, Permission, LoanToInstance, LoanToApp}
-use Rattle.rules.specs.declared.Answer.{Answer}
-use Rattle.rules.specs.declared.Answer.TheVariants.{Done, Refused}
 use Rattle.rules.specs.Lists.{any, find, mem, test, bind, map_option, or_else}
 use Rattle.rules.specs.ListsLaws.{and-false, cond-false, cond-true, clashing, find-holds}
 use Rattle.rules.specs.Limits.{Limits}
@@ -26,8 +24,8 @@ use Rattle.rules.specs.Permissions.{allows}
 use Rattle.rules.specs.Grounds.{is_ground, ground, running_app, provider, ground_of}
 use Rattle.rules.proofs.PermissionsLaws.{holds-dangerous}
 use Rattle.rules.specs.GroundsLaws.{by-permission, by-loan-to-instance, by-loan-to-app}
-use Rattle.rules.specs.Refusals.{Refusal, refusals}
-use Rattle.rules.specs.Answer.{decide, answer, ground_for}
+use Rattle.rules.specs.Answer.{done, answer, ground_for}
+use Rattle.rules.specs.DoneLaws.{its-ground}
 use Rattle.state.specs.Tables.{State, part_at, view_of}
 use Rattle.state.specs.Effects.{device}
 use Rattle.history.specs.Log.{Past, is_of, is_by, log_part, log_defined, grant_by, log_granted, group_by, log_grouped}
@@ -192,22 +190,8 @@ named v p n u op g e is = go (provider v p) (running_app v n) refl refl e
     go (some k) none i j e = absurd (clashing is (ap is_ground (sym e)))
     go (some k) (some a) i j e = record { part = k; app = a; provided = i; running = j; ground = e }
 
-decided : (rs : List Refusal) (d : Answer) (g : Ground) (w : ℕ) → decide rs d ≡ Done g w → d ≡ Done g w
-unfolding decide
-decided [] d g w e = e
-decided (r ∷ rs) d g w e = go r.applies e (decided rs d g w)
-  where
-    go : (t : Bool) → cond t (Refused r.reason) (decide rs d) ≡ Done g w → (decide rs d ≡ Done g w → d ≡ Done g w)
-        → d ≡ Done g w
-    go true e more = absurd (false≢true cc)
-    go false e more = more e
-
-its-ground : (L : Limits) (v : View) (x : Action) (g : Ground) (w : ℕ) → answer L v x ≡ Done g w → ground_for v x ≡ g
-unfolding answer
-its-ground L v x g w e = let d = decided (refusals L v x) _ g w e in cc
-
 rests : (L : Limits) (v : View) (p n u : ℕ) (op : Op) (x : Action) → Accesses p n u op x → (g : Ground) (w : ℕ)
-    → answer L v x ≡ Done g w → is_ground g ≡ true → Rests v p n u op g
+    → answer L v x ≡ done g w → is_ground g ≡ true → Rests v p n u op g
 unfolding ground_for
 rests L v p n u reading x reads g w e is =
     named v p n u reading g (its-ground L v (query (read p n u)) g w e) is
@@ -247,7 +231,7 @@ module _ (L : Limits) (xs : List Action) (p n u : ℕ) (op : Op) (x : Action) (i
 
   pub no-access-by-loan-to-instance :
       EndedSince (gives_loan (an_instance n) p u op) (ends_loan (an_instance n) p u op) (history (log L xs))
-      → answer L now x ≡ Done LoanToInstance w → ⊥
+      → answer L now x ≡ done LoanToInstance w → ⊥
   unfolding is_ground
   no-access-by-loan-to-instance since e =
       let r = rests L now p n u op x is LoanToInstance w e refl in
@@ -257,7 +241,7 @@ module _ (L : Limits) (xs : List Action) (p n u : ℕ) (op : Op) (x : Action) (i
   -- a is the app of the instance
   pub no-access-by-loan-to-app : (a : App) → running_app now n ≡ some a
       → EndedSince (gives_loan (an_app a.number) p u op) (ends_loan (an_app a.number) p u op) (history (log L xs))
-      → answer L now x ≡ Done LoanToApp w → ⊥
+      → answer L now x ≡ done LoanToApp w → ⊥
   unfolding is_ground
   no-access-by-loan-to-app a there since e =
       let r = rests L now p n u op x is LoanToApp w e refl in
@@ -270,7 +254,7 @@ module _ (L : Limits) (xs : List Action) (p n u : ℕ) (op : Op) (x : Action) (i
   module _ (a : App) (k : Part) (q : ℕ) (d : Known) (there : running_app now n ≡ some a)
       (provided : provider now p ≡ some k) (guard : Guarded now k op q d) where
     not-allowed : now.granted a.number q ≡ false → now.grouped a.number d.group ≡ false
-        → answer L now x ≡ Done Permission w → ⊥
+        → answer L now x ≡ done Permission w → ⊥
     unfolding is_ground allows
     not-allowed i g e =
         let r = rests L now p n u op x is Permission w e refl in
@@ -284,7 +268,7 @@ module _ (L : Limits) (xs : List Action) (p n u : ℕ) (op : Op) (x : Action) (i
 
     -- an individual grant ended, where the group is not granted
     pub no-access-by-grant : EndedSince (gives_grant a.number q) (ends_grant a.number q) (history (log L xs))
-        → now.grouped a.number d.group ≡ false → answer L now x ≡ Done Permission w → ⊥
+        → now.grouped a.number d.group ≡ false → answer L now x ≡ done Permission w → ⊥
     unfolding view_of
     no-access-by-grant since = not-allowed
         ((agrees L xs).granted a.number q ∙ grant-ended (history (log L xs)) a.number q since)
@@ -292,7 +276,7 @@ module _ (L : Limits) (xs : List Action) (p n u : ℕ) (op : Op) (x : Action) (i
     -- a group grant ended, where the permission is not granted by itself
     pub no-access-by-group :
         EndedSince (gives_group a.number d.group) (ends_group a.number d.group) (history (log L xs))
-        → now.granted a.number q ≡ false → answer L now x ≡ Done Permission w → ⊥
+        → now.granted a.number q ≡ false → answer L now x ≡ done Permission w → ⊥
     unfolding view_of
     no-access-by-group since i = not-allowed i
         ((agrees L xs).grouped a.number d.group ∙ group-ended (history (log L xs)) a.number d.group since)

@@ -21,7 +21,7 @@ or_swap (some x) b h = rw (h refl)
 -- an entry that passes a test goes, where at most one is searched for
 pub only-drop : {A : Type 0} (f t : A → Bool) (l : List A) → Only f l
     → find f (keep (λ x. not (t x)) l) ≡ unless t (find f l)
-unfolding keep find unless bind
+unfolding find unless bind
 only-drop f t [] o = refl
 only-drop f t (x ∷ l) o = go (t x) (f x) refl refl (only-drop f t l o.1)
   where

@@ -1,5 +1,5 @@
 -- The properties of Security hold: each comes down to what the log, the grounds, the refusals or the tables say.
-use Rattle.std.specs.Prelude.{ℕ, ◌≡◌, Bool, not, ◌&&◌, cond, List, ◌∷◌, ◌++◌, eqb}
+use Rattle.std.specs.Prelude.{ℕ, ◌≡◌, Bool, not, ◌&&◌, cond, List, ◌∷◌, ◌++◌, eqb, Ok, Err}
 use Rattle.std.proofs.Math.Path.{refl}
 use Rattle.std.proofs.Common.{sym, ap, subst, ◌∙◌, true≢false, eqb-true}
 use Rattle.std.proofs.Math.Bool.{true, false}
@@ -9,8 +9,6 @@ use Rattle.rules.specs.declared.Known.{Known}
 use Rattle.rules.specs.declared.Part.{Part}
 use Rattle.rules.specs.declared.Ground.{Ground}
 use Rattle.rules.specs.declared.Reason.TheVariants.{NoSuchComponent, NoSuchInstance, NotPermitted}
-use Rattle.rules.specs.declared.Answer.{Answer}
-use Rattle.rules.specs.declared.Answer.TheVariants.{Done, Refused}
 use Rattle.rules.specs.Lists.{all, mem, is_some, missing, test, bind, map_option}
 use Rattle.rules.specs.ListsLaws.{and_left, and_right, and-false, or-false, flat, eqb_same, or-true, all_any}
 use Rattle.rules.specs.Limits.{Limits}
@@ -26,7 +24,7 @@ use Rattle.rules.specs.Grounds.{ground_of}
 use Rattle.rules.proofs.PermissionsLaws.{holds-dangerous}
 use Rattle.rules.specs.GroundsLaws.{right-exactly, ground-exactly}
 use Rattle.rules.specs.Refusals.{is_group, access, lacking, refusals}
-use Rattle.rules.specs.Answer.{decide, answer}
+use Rattle.rules.specs.Answer.{Answer, done, refused, decide, answer}
 use Rattle.rules.specs.DoneLaws.{condition, clear, or-false_l, or-false_r}
 use Rattle.state.specs.Tables.{Row, State, app_number, granted_in, grouped_in, is_on, lent_in, view_of}
 use Rattle.state.specs.Effects.{parts_after, resources_after, instances_after, loans_after, next, after, device}
@@ -104,11 +102,11 @@ held-device L xs a p d un = held-state L (device L xs) a p d (reached-valid L xs
 -- ---- reads and writes
 module _ (v : View) (p n u : ℕ) (a : App) (k : Part) (there : There v p n u a k) where
   access-done : (op : Op) (g : Ground) (w : ℕ)
-      → is_done (decide (access v p n u op) (Done g w)) ≡ is_ground (ground v n a k u op)
+      → is_done (decide (access v p n u op) (done g w)) ≡ is_ground (ground v n a k u op)
   unfolding decide ground_of missing is_some test bind map_option is_done
   access-done op g w = rw (there.provided, there.running, there.resource) (go (is_ground (ground v n a k u op)))
     where
-      go : (t : Bool) → is_done (cond (not t) (Refused NotPermitted) (Done g w)) ≡ t
+      go : (t : Bool) → is_done (cond (not t) (refused NotPermitted) (done g w)) ≡ t
       go true = refl
       go false = refl
 
@@ -133,7 +131,7 @@ lent-ground v n a k u op lent = ground-exactly v n a k u op ∙ rw lent (or-true
 
 -- ---- a withdraw
 withdraw-lent : (s : State) (o p n u : ℕ) (g : Ground) (w : ℕ) (r : Receiver) (q y : ℕ) (op : Op)
-    → lent_in (after s (on_loans (withdraw o p n u)) (Done g w)).loans r q y op
+    → lent_in (after s (on_loans (withdraw o p n u)) (done g w)).loans r q y op
     ≡ not ((eqb q p && eqb y u) && carries op o) && lent_in s.loans r q y op
 unfolding after next loans_after is_on
 withdraw-lent s o p n u g w r q y op =
@@ -144,8 +142,8 @@ withdraw-lent s o p n u g w r q y op =
 module _ (s : State) (z : GrantAction) where
   same-loans : (b : Answer) → (after s (on_grants z) b).loans ≡ s.loans
   unfolding after next loans_after
-  same-loans (Refused n) = refl
-  same-loans (Done g w) = refl
+  same-loans (Err n) = refl
+  same-loans (Ok d) = refl
 
   same-lent : (b : Answer) (n : ℕ) (a : App) (k : Part) (u : ℕ) (op : Op)
       → is_lent (view_of (after s (on_grants z) b)) n a k u op ≡ is_lent (view_of s) n a k u op
@@ -155,8 +153,8 @@ module _ (s : State) (z : GrantAction) where
   still-there : (b : Answer) (p n u : ℕ) (a : App) (k : Part) → There (view_of s) p n u a k
       → There (view_of (after s (on_grants z) b)) p n u a k
   unfolding after next view_of provider running_app parts_after instances_after resources_after installed_after
-  still-there (Refused m) p n u a k there = there
-  still-there (Done g w) p n u a k there = record {
+  still-there (Err m) p n u a k there = there
+  still-there (Ok d) p n u a k there = record {
     provided = there.provided;
     running = rw (apps-after s.definitions s.rows (on_grants z)) there.running;
     resource = there.resource;
@@ -187,7 +185,7 @@ both-there f (some x) none e h = absurd (true≢false h)
 both-there f (some x) (some y) e h = refl
 
 lend-ground : (L : Limits) (v : View) (o p n u : ℕ) (r : Receiver) (g : Ground) (w : ℕ)
-    → answer L v (on_loans (lend o p n u r)) ≡ Done g w → (op : Op) → carries op o ≡ true
+    → answer L v (on_loans (lend o p n u r)) ≡ done g w → (op : Op) → carries op o ≡ true
     → test (ground_of v p n u op) is_ground ≡ true
 unfolding refusals condition ground_of
 lend-ground L v o p n u r g w e op asked =
@@ -198,7 +196,7 @@ lend-ground L v o p n u r g w e op asked =
     (or-false_l (missing (running_app v n)) _ (c NoSuchInstance)))
 
 withdraw-right : (L : Limits) (v : View) (o p n u : ℕ) (g : Ground) (w : ℕ)
-    → answer L v (on_loans (withdraw o p n u)) ≡ Done g w → (op : Op) → carries op o ≡ true
+    → answer L v (on_loans (withdraw o p n u)) ≡ done g w → (op : Op) → carries op o ≡ true
     → test (right_of v p n op) is_ground ≡ true
 unfolding refusals condition right_of
 withdraw-right L v o p n u g w e op asked =

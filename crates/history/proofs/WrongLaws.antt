@@ -5,8 +5,7 @@ use Rattle.std.proofs.Common.{sym, ap, subst, ◌∙◌, true≢false, append_as
 use Rattle.std.proofs.lemmas.Bool.{false≢true}
 use Rattle.rules.specs.declared.Ground.TheVariants.{Nothing}
 use Rattle.rules.specs.declared.Reason.TheVariants.{StateNotValid, NoSuchResource}
-use Rattle.rules.specs.declared.Answer.{Answer}
-use Rattle.rules.specs.declared.Answer.TheVariants.{Done, Refused}
+use Rattle.rules.specs.Answer.{Answer, done, refused}
 use Rattle.rules.specs.Limits.{large}
 use Rattle.state.specs.declared.Device.{Device}
 use Rattle.state.specs.Tables.{fresh}
@@ -42,11 +41,11 @@ on-example : (At : List ℕ → ℕ → Type 0) → AtEveryRecord At → (n : �
 unfolding is_tape lengths_fit manifest_place
 on-example At every n h = every example_tape refl n h
 
-first-answer : answer_at monitor_steps example_tape 0 ≡ Done Nothing 0
+first-answer : answer_at monitor_steps example_tape 0 ≡ done Nothing 0
 unfolding device_lines actions_before manifest_place
 first-answer = run-answers example_tape 0
 
-fourth-answer : answer_at monitor_steps example_tape 3 ≡ Refused NoSuchResource
+fourth-answer : answer_at monitor_steps example_tape 3 ≡ refused NoSuchResource
 unfolding device_lines actions_before manifest_place
 fourth-answer = run-answers example_tape 3
 
@@ -148,13 +147,13 @@ possible =
           lent = λ d lent action manifest. refl;
         },
       );
-      refuses = (constant (Refused StateNotValid), λ s t n h. refl);
-      done = (constant (Done Nothing 0), λ s t n h. refl);
+      refuses = (constant (refused StateNotValid), λ s t n h. refl);
+      done = (constant (done Nothing 0), λ s t n h. refl);
       still = (
-        constant (Refused StateNotValid),
-        λ s t n h. ap (λ (h : Held). h.device) (stays (Refused StateNotValid) s (suc n)),
+        constant (refused StateNotValid),
+        λ s t n h. ap (λ (h : Held). h.device) (stays (refused StateNotValid) s (suc n)),
       );
-      repeats = (constant (Refused StateNotValid), λ s t n h. refl);
+      repeats = (constant (refused StateNotValid), λ s t n h. refl);
       -- the log of document 01's tape tells of one app
       counts = (
         λ s. counts_text 0 0 0,

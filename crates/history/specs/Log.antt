@@ -1,12 +1,10 @@
 -- The log rule: what the rules ask, answered by walking back through the done actions, newest first. Each question ends
 -- at the action that decides it; no apps, components, grants or loans are collected. Document 01, "The log rule".
-use Rattle.std.specs.Prelude.{ℕ, ◌+◌, Bool, true, false, not, ◌&&◌, ◌||◌, cond, List, [], ◌∷◌, length, eqb}
+use Rattle.std.specs.Prelude.{ℕ, ◌+◌, Bool, true, false, not, ◌&&◌, ◌||◌, cond, List, [], ◌∷◌, length, eqb, Ok, Err}
 use Rattle.std.proofs.Math.Option.{Option, none, some}
 use Rattle.manifest.specs.Layout.{Manifest}
 use Rattle.rules.specs.declared.Part.{Part}
 use Rattle.rules.specs.declared.Known.{Known}
-use Rattle.rules.specs.declared.Answer.{Answer}
-use Rattle.rules.specs.declared.Answer.TheVariants.{Done, Refused}
 use Rattle.rules.specs.Lists.{any, find, bind, test, or_find, map_option}
 use Rattle.rules.specs.Limits.{Limits}
 use Rattle.rules.specs.Action.{Receiver, an_instance, an_app, same_receiver, Op, reading, writing, carries, install}
@@ -14,7 +12,7 @@ use Rattle.rules.specs.Action.{uninstall, grant, revoke, grant_group, revoke_gro
 use Rattle.rules.specs.Action.{on_apps, on_grants, on_runs, write, on_loans, query}
 use Rattle.rules.specs.View.{App, View, app_of, part_of}
 use Rattle.rules.specs.Permissions.{known_by}
-use Rattle.rules.specs.Answer.{answer}
+use Rattle.rules.specs.Answer.{Answer, answer}
 use Rattle.state.specs.Tables.{view_of}
 use Rattle.state.specs.Effects.{device}
 
@@ -30,8 +28,8 @@ pub record Past : Type 0 where
 
 -- only done actions count
 unfoldable pub counted : Action → Answer → List Past → List Past
-counted x (Refused n) h = h
-counted x (Done g v) h = record { action = x; value = v } ∷ h
+counted x (Err n) h = h
+counted x (Ok d) h = record { action = x; value = d.value } ∷ h
 
 unfoldable pub history : List Entry → List Past
 history [] = []

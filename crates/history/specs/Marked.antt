@@ -5,7 +5,7 @@ use Rattle.std.proofs.Math.Option.{none, some}
 use Rattle.manifest.specs.Layout.{Manifest, manifest_of}
 use Rattle.manifest.specs.Image.{image, le16, le32}
 use Rattle.manifest.specs.declared.Component.{Component}
-use Rattle.rules.specs.Lists.{all, keep, find, distinct, mem, upto, is_some, missing, test, bind, map_option, or_else}
+use Rattle.rules.specs.Lists.{find, distinct, mem, upto, is_some, missing, test, bind, map_option, or_else}
 use Rattle.rules.specs.Lists.{or_find}
 use Rattle.rules.specs.Limits.{large}
 use Rattle.rules.specs.Action.{carries, operations_of, is_operations, receiver_kind, receiver_number, same_receiver}
@@ -211,7 +211,7 @@ situations =
 
 -- the lines of the device; what its line opens is open wherever it is
 unfoldable pub device_lines : List Action → List Line
-unfolding all keep find distinct mem upto is_some missing test bind map_option or_else or_find manifest_of carries
+unfolding find distinct mem upto is_some missing test bind map_option or_else or_find manifest_of carries
     operations_of is_operations receiver_kind receiver_number same_receiver fits fields_of forms fitting form_of asked
     action_of built_ins built_in known hold holds allows permission_for is_ground right_ground loan_ground ground
     running_app provider startable right_of ground_of clash crowded is_running grantable is_group groupable

@@ -3,7 +3,7 @@
 use Rattle.std.specs.Prelude.{ℕ, zero, suc, ◌+◌, cond, List, [], ◌++◌}
 use Rattle.std.specs.Int.Count.{ones}
 use Rattle.rules.specs.declared.Loan.{Loan}
-use Rattle.rules.specs.declared.Answer.{Answer}
+use Rattle.rules.specs.Answer.{Answer}
 use Rattle.state.specs.declared.Device.{Device}
 use Rattle.state.specs.Tables.{fresh}
 use Rattle.state.specs.Stored.{device_of, lent_of}

@@ -1,12 +1,10 @@
 -- What the published models prove of theirs, said of this one: source document 002, properties 4, 5 and 7, and source
 -- document 000, lemmas 3, 4 and 6 with the last two of the properties before them. SecurityLaws proves it.
-use Rattle.std.specs.Prelude.{ℕ, ◌≡◌, Bool, true, false, ◌&&◌, ◌||◌, List, ◌∷◌, ◌++◌, eqb}
+use Rattle.std.specs.Prelude.{ℕ, ◌≡◌, Bool, true, false, ◌&&◌, ◌||◌, List, ◌∷◌, ◌++◌, eqb, Ok, Err}
 use Rattle.std.proofs.Math.Option.{some}
 use Rattle.rules.specs.declared.Known.{Known}
 use Rattle.rules.specs.declared.Part.{Part}
 use Rattle.rules.specs.declared.Ground.{Ground}
-use Rattle.rules.specs.declared.Answer.{Answer}
-use Rattle.rules.specs.declared.Answer.TheVariants.{Done, Refused}
 use Rattle.rules.specs.Lists.{is_some, test}
 use Rattle.rules.specs.Limits.{Limits}
 use Rattle.rules.specs.Action.{Receiver, an_instance, an_app, Op, reading, writing, carries, GrantAction, grant, lend}
@@ -14,7 +12,7 @@ use Rattle.rules.specs.Action.{withdraw, read, Action, on_grants, write, on_loan
 use Rattle.rules.specs.View.{App, View}
 use Rattle.rules.specs.Permissions.{known, dangerous, holds}
 use Rattle.rules.specs.Grounds.{is_exported, is_ground, running_app, provider, right_of, ground_of}
-use Rattle.rules.specs.Answer.{answer}
+use Rattle.rules.specs.Answer.{Answer, done, answer}
 use Rattle.state.specs.Tables.{State, granted_in, lent_in, view_of}
 use Rattle.state.specs.Effects.{after, device}
 use Rattle.state.specs.Valid.{valid}
@@ -22,8 +20,8 @@ use Rattle.history.specs.Log.{Past, history, log}
 use Rattle.history.specs.Ended.{gives_grant, ends_grant, ended_in, EndedSince}
 
 unfoldable pub is_done : Answer → Bool
-is_done (Done g v) = true
-is_done (Refused n) = false
+is_done (Ok d) = true
+is_done (Err n) = false
 
 -- a dangerous permission of group 0
 pub record Ungrouped (v : View) (p : ℕ) (d : Known) : Type 0 where
@@ -72,10 +70,10 @@ pub record Secure (L : Limits) : Type 0 where
       → is_done (answer L v (write p n u x)) ≡ is_lent v n a k u writing
   -- a withdraw reaches every receiver (000, lemma 6), and leaves other resources and other operations as they were
   pub withdrawn : (s : State) (o p n u : ℕ) (g : Ground) (w : ℕ) (r : Receiver) (op : Op) → carries op o ≡ true
-      → lent_in (after s (on_loans (withdraw o p n u)) (Done g w)).loans r p u op ≡ false
+      → lent_in (after s (on_loans (withdraw o p n u)) (done g w)).loans r p u op ≡ false
   pub not_withdrawn : (s : State) (o p n u : ℕ) (g : Ground) (w : ℕ) (r : Receiver) (q y : ℕ) (op : Op)
       → (eqb q p && eqb y u) && carries op o ≡ false
-      → lent_in (after s (on_loans (withdraw o p n u)) (Done g w)).loans r q y op ≡ lent_in s.loans r q y op
+      → lent_in (after s (on_loans (withdraw o p n u)) (done g w)).loans r q y op ≡ lent_in s.loans r q y op
   -- a revoke, as every action on grants, leaves every loan as it was, and what is lent still serves (002, property 7)
   pub not_revoked : (s : State) (z : GrantAction) (b : Answer) → (after s (on_grants z) b).loans ≡ s.loans
   pub served_read : (s : State) (z : GrantAction) (b : Answer) (p n u : ℕ) (a : App) (k : Part)
@@ -86,8 +84,8 @@ pub record Secure (L : Limits) : Type 0 where
       → is_done (answer L (view_of (after s (on_grants z) b)) (write p n u x)) ≡ true
   -- only what the giver can do itself is passed on, and withdrawn only by its own right (000, 4.1)
   pub lent_own : (v : View) (o p n u : ℕ) (r : Receiver) (g : Ground) (w : ℕ)
-      → answer L v (on_loans (lend o p n u r)) ≡ Done g w → (op : Op) → carries op o ≡ true
+      → answer L v (on_loans (lend o p n u r)) ≡ done g w → (op : Op) → carries op o ≡ true
       → test (ground_of v p n u op) is_ground ≡ true
   pub withdrawn_own : (v : View) (o p n u : ℕ) (g : Ground) (w : ℕ)
-      → answer L v (on_loans (withdraw o p n u)) ≡ Done g w → (op : Op) → carries op o ≡ true
+      → answer L v (on_loans (withdraw o p n u)) ≡ done g w → (op : Op) → carries op o ≡ true
       → test (right_of v p n op) is_ground ≡ true

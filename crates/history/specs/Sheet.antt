@@ -1,10 +1,9 @@
 -- The bytes of the answer sheet, from the device and from the log alone: document 01, "The tape and the answer sheet".
 use Rattle.std.specs.Prelude.{ℕ, zero, suc, ◌+◌, ◌/◌, ◌%◌, cond, List, [], ◌∷◌, ◌++◌, length, ltb}
 use Rattle.std.proofs.Math.Option.{Option, none, some}
-use Rattle.rules.specs.declared.Answer.{Answer}
 use Rattle.rules.specs.Limits.{large}
 use Rattle.rules.specs.View.{View}
-use Rattle.rules.specs.Answer.{line_of}
+use Rattle.rules.specs.Answer.{Answer, line_of}
 use Rattle.state.specs.Tables.{view_of}
 use Rattle.state.specs.Effects.{device}
 use Rattle.history.specs.Log.{Entry, history, view_of_log, log, log_alone}

@@ -2,7 +2,7 @@
 -- have to say". Each of the five is said of runs from the fresh device alone: the less it says, the more is shut out.
 use Rattle.std.specs.Prelude.{ℕ, suc, ◌<◌, ◌≡◌, true, false, List, ◌++◌}
 use Rattle.rules.specs.declared.Loan.{Loan}
-use Rattle.rules.specs.declared.Answer.{Answer}
+use Rattle.rules.specs.Answer.{Answer}
 use Rattle.rules.specs.Limits.{large}
 use Rattle.rules.specs.View.{View}
 use Rattle.state.specs.declared.Device.{Device}

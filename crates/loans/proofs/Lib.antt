@@ -1,2 +1,3 @@
 pub mod Sizes
-pub mod Kit
+pub mod Making
+pub mod Same

@@ -1,20 +1,21 @@
 -- What the bytes of an action record ask for, as a case with numbers: document 01, "Action records".
 -- The fields' table is that of the rules, and each case is an action of the rules.
-use Rattle.std.specs.Prelude.{ℕ, Bool, cond, List, [], ◌∷◌, length, eqb}
+use Rattle.std.specs.Prelude.{ℕ, Bool, cond, List, [], ◌∷◌, length, eqb, Option, Some, None}
 use Rattle.manifest.specs.Layout.{manifest_of, u8_at, u16_at, u32_at}
-use Rattle.rules.specs.Lists.{find, test, or_else, map_option}
+use Rattle.rules.specs.Lists.{find, test, map_option}
 use Rattle.rules.specs.Action.{an_instance, an_app, install, uninstall, grant, revoke, grant_group, revoke_group, start}
 use Rattle.rules.specs.Action.{stop}
 use Rattle.rules.specs.Action.{lend, withdraw, read, ask, malformed, Action, on_apps, on_grants, on_runs, write}
 use Rattle.rules.specs.Action.{on_loans}
 use Rattle.rules.specs.Action.{query}
 use Rattle.rules.specs.Record.{Fields, forms, fitting}
+use Rattle.tables.specs.Looking.{option_of}
 use Rattle.loans.specs.declared.Record.{Record}
 use Rattle.loans.specs.declared.Asked.{Asked}
 use Rattle.loans.specs.declared.Asked.TheVariants.{Install, Uninstall, Grant, Revoke, GrantGroup, RevokeGroup}
 use Rattle.loans.specs.declared.Asked.TheVariants.{Start, Stop, Read, Write, LendToInstance, LendToApp}
 use Rattle.loans.specs.declared.Asked.TheVariants.{Withdraw}
-use Rattle.loans.specs.declared.Asked.TheVariants.{Ask, Malformed}
+use Rattle.loans.specs.declared.Asked.TheVariants.{Ask}
 
 -- code u8, a u8, b u16, c u16, d u16, e u32
 abbrev pub record_of : List ℕ → Record
@@ -70,13 +71,12 @@ cases =
     13 asks (λ r. Withdraw r.a r.b r.c r.d) ∷
     14 asks (λ r. Ask r.b r.c) ∷ []
 
-unfoldable pub asked_by : Record → Asked
-asked_by r = or_else Malformed (map_option (λ k. k.asks r) (find (λ k. eqb k.code r.code) cases))
+unfoldable pub asked_by : Record → Option Asked
+asked_by r = option_of (map_option (λ k. k.asks r) (find (λ k. eqb k.code r.code) cases))
 
--- a record of twelve bytes that is well formed asks for something
-unfoldable pub asked_of : List ℕ → Asked
-asked_of s =
-    cond (eqb (length s) 12) (cond (well_formed (record_of s)) (asked_by (record_of s)) Malformed) Malformed
+-- a record of twelve bytes that is well formed asks for something, and other bytes for nothing
+unfoldable pub asked_of : List ℕ → Option Asked
+asked_of s = cond (eqb (length s) 12) (cond (well_formed (record_of s)) (asked_by (record_of s)) None) None
 
 -- the action that a case is, with the bytes of a manifest handed to it
 unfoldable pub action_from : Asked → List ℕ → Action
@@ -94,4 +94,8 @@ action_from (LendToInstance o p n u r) m = on_loans (lend o p n u (an_instance r
 action_from (LendToApp o p n u r) m = on_loans (lend o p n u (an_app r))
 action_from (Withdraw o p n u) m = on_loans (withdraw o p n u)
 action_from (Ask b p) m = query (ask b p)
-action_from Malformed m = query malformed
+
+-- bytes that ask for nothing are a malformed action
+abbrev pub action_for : Option Asked → List ℕ → Action
+action_for (Some x) m = action_from x m
+action_for None m = query malformed

@@ -1,9 +1,9 @@
--- Where two tables differ: the loops that find it, one record as the invariant and one law for each place of the loop;
--- and that writing those records of the new table into the old one gives the new one.
-use Prim.Native.Nat.{ℕ, zero, suc, ◌+◌, ◌-◌, ◌≤◌, ◌<◌}
-use Rattle.std.specs.Prelude.{◌≡◌, refl, Bool, true, false, ◌&&◌, cond, List, [], ◌∷◌, length, take, drop, get_or, eqb}
+-- Where two tables last differ: the loop that finds it, one record as the invariant and one law for each place of the
+-- loop; and that writing the records that differ of the new table into the old one gives the new one.
+use Prim.Native.Nat.{ℕ, zero, suc, ◌-◌, ◌≤◌, ◌<◌}
+use Rattle.std.specs.Prelude.{◌≡◌, refl, Bool, true, false, ◌&&◌, cond, List, [], ◌∷◌, length, take, get_or, eqb}
 use Rattle.std.proofs.Math.Path.{sym, ap}
-use Rattle.std.proofs.Common.{◌∙◌, add-one, eqb-true, drop_of_length-le, drop-cons, take_all}
+use Rattle.std.proofs.Common.{◌∙◌, eqb-true, take_all}
 use native.Mathlib.Omega.{arith}
 use Rattle.rules.specs.declared.Loan.{Loan}
 use Rattle.rules.specs.ListsLaws.{and_left, and_right}
@@ -37,50 +37,6 @@ same-loans x y e =
       uri = uri i;
       operations = operations i;
     }
-
--- ---- the first change: the records before i are the same
-pub record Alike (old new : List Loan) (n i : ℕ) : Type 0 where
-  pub whole : length old ≡ n
-  pub also : length new ≡ n
-  pub inside : i ≤ n
-  pub same : first_change old new ≡ i + first_change (drop i old) (drop i new)
-
-pub alike-begin : {old new : List Loan} {n : ℕ} → length old ≡ n → length new ≡ n → Alike old new n 0
-alike-begin {old} {new} e f =
-    let o : first_change old new ≡ 0 + first_change (drop 0 old) (drop 0 new) = omega arith in
-    record { whole = e; also = f; inside = omega arith; same = o }
-
-module _ {old new : List Loan} {n i : ℕ} (s : Alike old new n i) where
-  alike_at : i < n → (d : Loan)
-      → first_change old new
-      ≡ i + first_change (get_or old i d ∷ drop (suc i) old) (get_or new i d ∷ drop (suc i) new)
-  alike_at h d = s.same ∙ rw (
-    drop-cons old i d (omega (arith, s.whole)),
-    drop-cons new i d (omega (arith, s.also)),
-  )
-
-  pub alike_next : i < n → (d : Loan) → is_same (get_or old i d) (get_or new i d) ≡ true → Alike old new n (i + 1)
-  unfolding first_change
-  alike_next h d e =
-      let f : first_change old new ≡ i + suc (first_change (drop (suc i) old) (drop (suc i) new)) = alike_at h d
-      ∙ rw e in
-      let g : first_change old new ≡ (i + 1) + first_change (drop (suc i) old) (drop (suc i) new) = omega arith in
-      record {
-        whole = s.whole;
-        also = s.also;
-        inside = omega arith;
-        same = g ∙ ap (λ (j : ℕ). (i + 1) + first_change (drop j old) (drop j new)) (sym (add-one i));
-      }
-
-  pub alike-differs : i < n → (d : Loan) → is_same (get_or old i d) (get_or new i d) ≡ false → i ≡ first_change old new
-  unfolding first_change
-  alike-differs h d e = let f : first_change old new ≡ i + 0 = alike_at h d ∙ rw e in omega arith
-
-  pub alike-ends : n ≤ i → i ≡ first_change old new
-  unfolding first_change
-  alike-ends h =
-      let f : first_change old new ≡ i + 0 = s.same ∙ rw (drop_of_length-le old {i = i} (omega (arith, s.whole))) in
-      omega arith
 
 -- ---- the last change: the records from i on are the same
 past-suc : (t : Bool) (n : ℕ) → past t (suc n) ≡ suc (suc n)
@@ -186,6 +142,6 @@ differing (x ∷ old) (y ∷ new) e =
 
 -- a slice that holds `old`, with the changed records of `new` written into it, holds `new`
 pub changed-written : (old new : List Loan) → length old ≡ length new
-    → written (changed_in old new).from (changed_in old new).to new old ≡ new
+    → written (changed_in old new).start (changed_in old new).end new old ≡ new
 unfolding changed_in
 changed-written old new e = differing old new e

@@ -1,22 +1,26 @@
 -- The list that a loan table holds, for every table: a count past the array holds the whole array. The table that
 -- holds a list, zero past its end. And what a lend and each ending make of the list.
-use Rattle.std.specs.Prelude.{ℕ, Bool, not, ◌&&◌, cond, List, [], ◌∷◌, ◌++◌, map, length, take, ltb}
+use Rattle.std.specs.Prelude.{ℕ, Bool, not, ◌&&◌, cond, List, [], ◌∷◌, ◌++◌, map, length, ltb}
 use Rattle.rules.specs.declared.Loan.{Loan}
 use Rattle.rules.specs.declared.Part.{Part}
 use Rattle.rules.specs.Lists.{any}
 use Rattle.rules.specs.Action.{Receiver, an_instance, an_app, Op, reading, writing, carries}
-use Rattle.state.specs.Stored.{padded, zero_loan}
+use Rattle.state.specs.declared.Table.{Table}
+use Rattle.state.specs.Listed.{table_of, list_in}
+use Rattle.state.specs.Stored.{zero_loan}
 use Rattle.state.specs.Tables.{is_to, is_on, is_loan}
 use Rattle.state.specs.Effects.{loan_of, widened, ends_with}
-use Rattle.loans.specs.declared.Loans.{Loans}
 use Rattle.loans.specs.declared.Receiver.{Receiver as CodeReceiver}
 use Rattle.loans.specs.declared.Receiver.TheVariants.{Instance, App}
 
+abbrev pub Loans : Type 0
+Loans = Table Loan 128
+
 abbrev pub loans_in : Loans → List Loan
-loans_in t = take t.count t.entries
+loans_in t = list_in t
 
 abbrev pub loans_table : List Loan → Loans
-loans_table l = record { entries = padded zero_loan 128 l; count = length l }
+loans_table l = table_of zero_loan 128 l
 
 abbrev pub receiver_of : CodeReceiver → Receiver
 receiver_of (Instance n) = an_instance n

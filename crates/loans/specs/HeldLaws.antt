@@ -1,15 +1,10 @@
 -- A loan made anew from an answer for each operation, and what the lends and endings are among the effects of actions.
-use Rattle.std.specs.Prelude.{ℕ, ◌+◌, ◌<◌, ◌≡◌, Bool, true, false, List, map, length, take, set}
-use Rattle.std.proofs.Common.{arith, length-take-le}
-use borrow.Author.Tests.{lt-ltb, le-ltb}
-use Rattle.std.proofs.Math.Numerals.{add-one}
-use Rattle.std.proofs.Math.Seq.{take-suc-set}
+use Rattle.std.specs.Prelude.{ℕ, ◌≡◌, Bool, true, false, List, map}
 use Rattle.rules.specs.declared.Loan.{Loan}
 use Rattle.rules.specs.Lists.{any}
 use Rattle.rules.specs.Action.{Receiver, Op, reading, writing, operations_of}
 use Rattle.state.specs.Tables.{is_loan}
 use Rattle.state.specs.Effects.{loan_of, with_operations, kept, widened}
-use Rattle.tables.specs.Scan.{Bound}
 use Rattle.loans.specs.Held.{by_op, appended, lend_in}
 
 -- ---- one loan: only the answers for the two operations count
@@ -22,23 +17,6 @@ pub kept_by : (x : Loan) (keeps : Loan → Op → Bool) {p q : Bool} → p ≡ k
     → kept (λ y op. by_op p q op) x ≡ kept keeps x
 unfolding kept with_operations operations_of
 kept_by x keeps e g = rw (e, g)
-
--- ---- a table, of which n places are held
-module _ (x : Loan) {e : List Loan} {k n : ℕ} (b : Bound e k n) where
-  held-length : length (take n e) ≡ n
-  held-length = length-take-le n e b.room
-
-  pub appended-full : n ≡ 128 → take n e ≡ appended x (take k e)
-  unfolding appended
-  appended-full q =
-      let l = held-length in
-      rw (← b.same, le-ltb (length (take n e)) 128 (omega arith))
-
-  pub appended-more : n < 128 → n < length e → take (n + 1) (set e n x) ≡ appended x (take k e)
-  unfolding appended
-  appended-more h r =
-      let l = held-length in
-      rw (← b.same, lt-ltb (length (take n e)) 128 (omega arith), add-one n, take-suc-set e n x r)
 
 -- ---- a lend
 module _ (r : Receiver) (p u o : ℕ) (l : List Loan) where

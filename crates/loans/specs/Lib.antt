@@ -2,7 +2,6 @@ pub mod Asked
 pub mod AskedLaws
 pub mod Held
 pub mod HeldLaws
-pub mod CompactLaws
 pub mod Lent
 pub mod LentLaws
 pub mod ChangeLaws

@@ -1,6 +1,6 @@
 -- No two differing results meet the contract of a public function: each contract is one equation for the whole result,
 -- or for the whole lent list at exit. Document 01, "What the contracts have to say".
-use Rattle.std.specs.Prelude.{ℕ, ◌≡◌, Bool, List, map}
+use Rattle.std.specs.Prelude.{ℕ, ◌≡◌, Bool, List, map, Option}
 use Rattle.manifest.specs.Unique.{only_one}
 use Rattle.rules.specs.declared.Loan.{Loan}
 use Rattle.rules.specs.declared.Part.{Part}
@@ -9,15 +9,15 @@ use Rattle.rules.specs.Action.{Receiver, Op}
 use Rattle.state.specs.Tables.{is_loan, lent_in}
 use Rattle.state.specs.Effects.{reduce, widened}
 use Rattle.loans.specs.declared.Asked.{Asked}
-use Rattle.loans.specs.declared.Loans.{Loans}
 use Rattle.loans.specs.declared.Lent.{Lent}
-use Rattle.loans.specs.declared.Range.{Range}
+use Rattle.std.specs.declared.ops.Range.{Range}
 use Rattle.loans.specs.Asked.{asked_of}
-use Rattle.loans.specs.Held.{loans_in, loans_table, appended, lend_in, keeps_stop, keeps_uninstall, keeps_withdraw}
+use Rattle.loans.specs.Held.{Loans, loans_in, loans_table, appended, lend_in}
+use Rattle.loans.specs.Held.{keeps_stop, keeps_uninstall, keeps_withdraw}
 use Rattle.loans.specs.Lent.{no_loans, lent_from, written, changed_in}
 
 -- ---- action records
-pub decode-only : (s : List ℕ) (r r' : Asked) → r ≡ asked_of s → r' ≡ asked_of s → r ≡ r'
+pub decode-only : (s : List ℕ) (r r' : Option Asked) → r ≡ asked_of s → r' ≡ asked_of s → r ≡ r'
 decode-only s = only_one (asked_of s)
 
 -- ---- loans by value
@@ -66,5 +66,5 @@ pub write-records-only : (l t : List Loan) (from to : ℕ) (r r' : List Loan) �
     → r' ≡ written from to t l → r ≡ r'
 write-records-only l t from to = only_one (written from to t l)
 
-pub changed-only : (old new : List Loan) (r r' : Range) → r ≡ changed_in old new → r' ≡ changed_in old new → r ≡ r'
+pub changed-only : (old new : List Loan) (r r' : Range ℕ) → r ≡ changed_in old new → r' ≡ changed_in old new → r ≡ r'
 changed-only old new = only_one (changed_in old new)

@@ -2,27 +2,27 @@
 //! Every function answers for every input, also a table with a count past its array or garbage past its count.
 #![tactic(auto)]
 
-ghost use Rattle.std.specs.Prelude.{◌≡◌, map, ◌≤◌, ◌<◌, min, take, get_or, set, eqb};
+ghost use Rattle.std.specs.Prelude.{◌≡◌, map, ◌≤◌};
 ghost use Rattle.manifest.specs.Layout.{u16_at, u32_at};
-ghost use Rattle.rules.specs.Lists.{any};
+ghost use Rattle.rules.specs.Lists.{any, keep};
 ghost use Rattle.rules.specs.Action.{carries, operations_of, receiver_kind, receiver_number};
-ghost use Rattle.state.specs.Stored.{zero_loan};
 ghost use Rattle.state.specs.Tables.{is_to, is_on, is_loan, lent_in};
 ghost use Rattle.state.specs.Effects.{loan_of, with_operations, kept, carries_any, reduce, widened};
+ghost use Rattle.tables.specs.Closures.{Gives};
 ghost use Rattle.tables.specs.Held.{parts_in};
 ghost use Rattle.tables.specs.Looking.{op_of};
 ghost use Rattle.loans.specs.Asked.{record_of, well_formed, asked_by, asked_of};
 ghost use Rattle.loans.specs.Held.{loans_in, loans_table, receiver_of, by_op, appended, lend_in};
 ghost use Rattle.loans.specs.Held.{keeps_stop, keeps_uninstall, keeps_withdraw};
-ghost use Rattle.loans.specs.Lent.{no_loans, lent_as, lent_from, written, is_same, first_change, after_change};
-ghost use Rattle.loans.specs.Lent.{changed_in};
+ghost use Rattle.loans.specs.Lent.{no_loans, lent_from, written, first_change, after_change, changed_in};
 
 use rules::Loan;
-use state::Parts;
+use state::{Parts, Table};
+use std::ops::Range;
 use tables::Operation;
 
 /// What an action asks for. A lend's receiver and a written value stand at full width.
-#[derive(Clone, Copy)]
+#[derive(Clone, Copy, PartialEq, Eq)]
 pub enum Asked {
     Install {
         image: bool,
@@ -89,35 +89,46 @@ pub enum Asked {
         app: u16,
         permission: u16,
     },
-    Malformed,
 }
 
 /// The loan table by value; places past the count are zero.
-#[derive(Clone, Copy)]
-pub struct Loans {
-    pub entries: [Loan; 128],
-    pub count: usize,
-}
+pub type Loans = Table<Loan, 128>;
 
 /// To whom a loan is.
-#[derive(Clone, Copy)]
+#[derive(Clone, Copy, PartialEq, Eq)]
 pub enum Receiver {
     Instance(u16),
     App(u16),
 }
 
+impl Receiver {
+    #[tactic(auto, unfolding(rules::specs::Action::receiver_kind))]
+    fn kind(self) -> u8
+        ensures { result ≡ receiver_kind (receiver_of self) }
+    {
+        match self {
+            Receiver::Instance(_) => 1,
+            Receiver::App(_) => 2,
+        }
+    }
+
+    #[tactic(auto, unfolding(rules::specs::Action::receiver_number))]
+    fn number(self) -> u16
+        ensures { result ≡ receiver_number (receiver_of self) }
+    {
+        match self {
+            Receiver::Instance(number) => number,
+            Receiver::App(number) => number,
+        }
+    }
+}
+
 /// A copy of a lent table: its first 128 records, zero where one is missing, and how many it has.
+// `length` stays beside the array: it is the slice's own, also past 128, and `lent_from` in `copy_out` says both.
 #[derive(Clone, Copy)]
 pub struct Lent {
     pub table: [Loan; 128],
     pub length: usize,
-}
-
-/// The records from `from` on, up to `to`; none where `to` is not above `from`.
-#[derive(Clone, Copy)]
-pub struct Range {
-    pub from: usize,
-    pub to: usize,
 }
 
 // The numbers of an action record, in their order.
@@ -133,18 +144,19 @@ struct Record {
 
 // ---- action records
 
-/// What the bytes of an action ask for; bytes that are no action record are malformed.
-pub fn decode(action: &[u8]) -> Asked
+/// What the bytes of an action ask for; bytes that are no action record ask for nothing.
+#[tactic(auto, unfolding(crate::specs::Asked::asked_of))]
+pub fn decode(action: &[u8]) -> Option<Asked>
     ensures { result ≡ asked_of action.now }
 {
     if action.len() != 12 {
-        return Asked::Malformed;
+        return None;
     }
     let r = record_of(action);
-    if !well_formed(r) {
-        return Asked::Malformed;
+    if well_formed(r) {
+        return asked_by(r);
     }
-    asked_by(r)
+    None
 }
 
 fn record_of(s: &[u8]) -> Record
@@ -169,8 +181,7 @@ fn well_formed(r: Record) -> bool
     let d = r.d == 0;
     let e = r.e == 0;
     let operations = (1 <= r.a) & (r.a <= 3);
-    let code = r.code;
-    match code {
+    match r.code {
         1 => (r.a <= 1) & (c & (d & e)),
         2 => a & (c & (d & e)),
         3 => a & (d & e),
@@ -190,12 +201,14 @@ fn well_formed(r: Record) -> bool
 }
 
 // What a well formed record asks for, by its code.
-fn asked_by(r: Record) -> Asked
+fn asked_by(r: Record) -> Option<Asked>
     ensures { result ≡ asked_by r }
 {
-    let code = r.code;
-    match code {
-        1 => install_of(r),
+    Some(match r.code {
+        1 => Asked::Install {
+            image: r.a == 1,
+            place: r.b,
+        },
         2 => Asked::Uninstall { app: r.b },
         3 => Asked::Grant {
             app: r.b,
@@ -213,93 +226,48 @@ fn asked_by(r: Record) -> Asked
             app: r.b,
             group: r.c,
         },
-        7 => start_of(r),
+        7 => Asked::Start {
+            component: r.b,
+            caller: r.c,
+        },
         8 => Asked::Stop { instance: r.c },
-        9 => read_of(r),
-        10 => write_of(r),
-        11 => lend_to_instance_of(r),
-        12 => lend_to_app_of(r),
-        13 => withdraw_of(r),
+        9 => Asked::Read {
+            provider: r.b,
+            instance: r.c,
+            uri: r.d,
+        },
+        10 => Asked::Write {
+            provider: r.b,
+            instance: r.c,
+            uri: r.d,
+            value: r.e,
+        },
+        11 => Asked::LendToInstance {
+            operations: r.a,
+            provider: r.b,
+            giver: r.c,
+            uri: r.d,
+            receiver: r.e,
+        },
+        12 => Asked::LendToApp {
+            operations: r.a,
+            provider: r.b,
+            giver: r.c,
+            uri: r.d,
+            receiver: r.e,
+        },
+        13 => Asked::Withdraw {
+            operations: r.a,
+            provider: r.b,
+            instance: r.c,
+            uri: r.d,
+        },
         14 => Asked::Ask {
             app: r.b,
             permission: r.c,
         },
-        _ => Asked::Malformed,
-    }
-}
-
-fn install_of(r: Record) -> Asked
-    ensures { result ≡ Asked.Install (eqb r.a 1) r.b }
-{
-    Asked::Install {
-        image: r.a == 1,
-        place: r.b,
-    }
-}
-
-fn start_of(r: Record) -> Asked
-    ensures { result ≡ Asked.Start r.b r.c }
-{
-    Asked::Start {
-        component: r.b,
-        caller: r.c,
-    }
-}
-
-fn read_of(r: Record) -> Asked
-    ensures { result ≡ Asked.Read r.b r.c r.d }
-{
-    Asked::Read {
-        provider: r.b,
-        instance: r.c,
-        uri: r.d,
-    }
-}
-
-fn write_of(r: Record) -> Asked
-    ensures { result ≡ Asked.Write r.b r.c r.d r.e }
-{
-    Asked::Write {
-        provider: r.b,
-        instance: r.c,
-        uri: r.d,
-        value: r.e,
-    }
-}
-
-fn lend_to_instance_of(r: Record) -> Asked
-    ensures { result ≡ Asked.LendToInstance r.a r.b r.c r.d r.e }
-{
-    Asked::LendToInstance {
-        operations: r.a,
-        provider: r.b,
-        giver: r.c,
-        uri: r.d,
-        receiver: r.e,
-    }
-}
-
-fn lend_to_app_of(r: Record) -> Asked
-    ensures { result ≡ Asked.LendToApp r.a r.b r.c r.d r.e }
-{
-    Asked::LendToApp {
-        operations: r.a,
-        provider: r.b,
-        giver: r.c,
-        uri: r.d,
-        receiver: r.e,
-    }
-}
-
-fn withdraw_of(r: Record) -> Asked
-    ensures { result ≡ Asked.Withdraw r.a r.b r.c r.d }
-{
-    Asked::Withdraw {
-        operations: r.a,
-        provider: r.b,
-        instance: r.c,
-        uri: r.d,
-    }
+        _ => return None,
+    })
 }
 
 // Little-endian; a byte past the end is 0.
@@ -307,23 +275,20 @@ fn u16_at(s: &[u8], at: usize) -> u16
     requires { at ≤ 100 }
     ensures { result ≡ u16_at s.now at }
 {
-    let low = manifest::byte_at(s, at);
-    let high = manifest::byte_at(s, at + 1);
-    (low as u16) + 256 * (high as u16)
+    u16::from(manifest::byte_at(s, at)) + 256 * u16::from(manifest::byte_at(s, at + 1))
 }
 
 fn u32_at(s: &[u8], at: usize) -> u32
     requires { at ≤ 98 }
     ensures { result ≡ u32_at s.now at }
 {
-    let low = u16_at(s, at);
-    let high = u16_at(s, at + 2);
-    (low as u32) + 65536 * (high as u32)
+    u32::from(u16_at(s, at)) + 65536 * u32::from(u16_at(s, at + 2))
 }
 
-// ---- loans by value
+// ---- loans by value: receiver, provider and uri stay three parameters, as a struct of them makes each contract longer
 
 /// Does a loan to a receiver on a resource carry an operation?
+#[tactic(auto, unfolding(state::specs::Tables::lent_in))]
 pub fn lends(
     loans: Loans,
     receiver: Receiver,
@@ -333,37 +298,22 @@ pub fn lends(
 ) -> bool
     ensures { result ≡ lent_in (loans_in loans) (receiver_of receiver) provider uri (op_of operation) }
 {
-    let n = within(loans.count);
-    let mut i: usize = 0;
-    while i < n {
-        let x = loans.entries[i];
-        if is_loan(x, receiver, provider, uri) & carries(operation, x.operations) {
-            return true;
-        } else {
-            i += 1;
-        }
-    }
-    false
+    loans.held().iter().any(|x| is_loan(*x, receiver, provider, uri)
+        && carries(operation, x.operations))
 }
 
 /// Is there a loan to a receiver on a resource?
 pub fn has_loan(loans: Loans, receiver: Receiver, provider: u16, uri: u16) -> bool
     ensures { result ≡ any (is_loan (receiver_of receiver) provider uri) (loans_in loans) }
 {
-    let n = within(loans.count);
-    let mut i: usize = 0;
-    while i < n {
-        let x = loans.entries[i];
-        if is_loan(x, receiver, provider, uri) {
-            return true;
-        } else {
-            i += 1;
-        }
-    }
-    false
+    loans
+        .held()
+        .iter()
+        .any(|x| is_loan(*x, receiver, provider, uri))
 }
 
 /// A loan to a receiver on a resource: widened where there is one, and otherwise added. A full table takes no more.
+#[tactic(auto, unfolding(crate::specs::Held::lend_in))]
 pub fn lend(loans: Loans, receiver: Receiver, provider: u16, uri: u16, operations: u8) -> Loans
     ensures { result ≡ loans_table (lend_in (receiver_of receiver) provider uri operations (loans_in loans)) }
 {
@@ -377,96 +327,68 @@ pub fn lend(loans: Loans, receiver: Receiver, provider: u16, uri: u16, operation
 pub fn widen(loans: Loans, receiver: Receiver, provider: u16, uri: u16, operations: u8) -> Loans
     ensures { result ≡ loans_table (map (widened (receiver_of receiver) provider uri operations) (loans_in loans)) }
 {
-    let n = within(loans.count);
-    let mut t = loans;
-    let mut i: usize = 0;
-    while i < n {
-        let x = t.entries[i];
-        let w = widened(x, receiver, provider, uri, operations);
-        t.entries[i] = w;
-        i += 1;
-    }
-    cut(t, n)
+    each(loans, |x| widened(x, receiver, provider, uri, operations))
 }
 
 /// One loan more, at the end; a full table stays as it is.
 pub fn append(loans: Loans, loan: Loan) -> Loans
     ensures { result ≡ loans_table (appended loan (loans_in loans)) }
 {
-    let n = within(loans.count);
-    if n == 128 {
-        return cut(loans, n);
-    }
-    let mut t = loans;
-    t.entries[n] = loan;
-    cut(t, n + 1)
+    let mut made = each(loans, |x| x);
+    made.push(loan);
+    made
 }
 
-/// The loans left when an instance stops. What is left of each moves to the front, in order; the places past them are
-/// made zero, here and in the two functions below.
+/// The loans left when an instance stops: those to it end.
+#[tactic(auto, unfolding(state::specs::Effects::reduce))]
 pub fn reduce_stop(loans: Loans, instance: u16) -> Loans
     ensures { result ≡ loans_table (reduce (keeps_stop instance) (loans_in loans)) }
 {
-    let n = within(loans.count);
-    let mut t = loans;
-    let mut i: usize = 0;
-    let mut k: usize = 0;
-    while i < n {
-        let x = t.entries[i];
-        let left = kept_stop(x, instance);
-        if carries_any(left) {
-            t.entries[k] = left;
-            k += 1;
-            i += 1;
-        } else {
-            i += 1;
-        }
-    }
-    cut(t, k)
+    left(loans, |x| kept_stop(x, instance))
 }
 
 /// The loans left when an app is uninstalled: those on its resources and those to it end.
+#[tactic(auto, unfolding(state::specs::Effects::reduce))]
 pub fn reduce_uninstall(loans: Loans, parts: Parts, app: u16) -> Loans
     ensures { result ≡ loans_table (reduce (keeps_uninstall (parts_in parts) app) (loans_in loans)) }
 {
-    let n = within(loans.count);
-    let mut t = loans;
-    let mut i: usize = 0;
-    let mut k: usize = 0;
-    while i < n {
-        let x = t.entries[i];
-        let left = kept_uninstall(x, parts, app);
-        if carries_any(left) {
-            t.entries[k] = left;
-            k += 1;
-            i += 1;
-        } else {
-            i += 1;
-        }
-    }
-    cut(t, k)
+    left(loans, |x| kept_uninstall(x, parts, app))
 }
 
 /// The loans left when operations on a resource are withdrawn from every loan on it.
+#[tactic(auto, unfolding(state::specs::Effects::reduce))]
 pub fn reduce_withdraw(loans: Loans, provider: u16, uri: u16, operations: u8) -> Loans
     ensures { result ≡ loans_table (reduce (keeps_withdraw provider uri operations) (loans_in loans)) }
 {
-    let n = within(loans.count);
-    let mut t = loans;
-    let mut i: usize = 0;
-    let mut k: usize = 0;
-    while i < n {
-        let x = t.entries[i];
-        let left = kept_withdraw(x, provider, uri, operations);
-        if carries_any(left) {
-            t.entries[k] = left;
-            k += 1;
-            i += 1;
-        } else {
-            i += 1;
+    left(loans, |x| kept_withdraw(x, provider, uri, operations))
+}
+
+// What a change makes of each loan, in order; the places past them are zero.
+fn each<F: Fn(Loan) -> Loan>(loans: Loans, change: F) -> Loans
+    requires { F.IsAlwaysCallable change }
+    ensures { (to : Loan → Loan) → Gives F.Fn change to → result ≡ loans_table (map to (loans_in loans)) }
+{
+    let mut made = Table::empty(Loan::default());
+    for loan in loans.held() {
+        made.push(change(*loan));
+    }
+    made
+}
+
+// What a change leaves of each loan, in order; one left with no operation goes, and the places past them are zero.
+fn left<F: Fn(Loan) -> Loan>(loans: Loans, change: F) -> Loans
+    requires { F.IsAlwaysCallable change }
+    ensures { (to : Loan → Loan) → Gives F.Fn change to
+        → result ≡ loans_table (keep carries_any (map to (loans_in loans))) }
+{
+    let mut made = Table::empty(Loan::default());
+    for loan in loans.held() {
+        let rest = change(*loan);
+        if carries_any(rest) {
+            made.push(rest);
         }
     }
-    cut(t, k)
+    made
 }
 
 // ---- loans lent in place
@@ -476,68 +398,46 @@ pub fn copy_out(lent: &[Loan]) -> Lent
     ensures { result ≡ lent_from lent.now }
 {
     let length = lent.len();
-    let n = within(length);
+    let n = length.min(128);
     let mut table = no_loans();
-    let mut i: usize = 0;
-    while i < n {
-        let x = lent[i];
-        let next = put(table, i, x);
-        table = next;
-        i += 1;
-    }
-    as_lent(table, length)
+    table[..n].copy_from_slice(&lent[..n]);
+    Lent { table, length }
 }
 
-/// Writes the records of a table from `from` on, up to `to`, and touches no other.
-pub fn write_records(lent: &mut [Loan], table: [Loan; 128], from: usize, to: usize)
-    ensures { lent.new ≡ written from to table lent.old }
+/// Writes the records of a table that lie in a range, and touches no other.
+pub fn write_records(lent: &mut [Loan], table: [Loan; 128], range: Range<usize>)
+    ensures { lent.new ≡ written range.start range.end table lent.old }
 {
-    let end = end_of(lent.len(), to);
-    let mut i = from;
-    while i < end {
-        let x = pick(table, i);
-        lent[i] = x;
-        i += 1;
+    let from = range.start;
+    let end = range.end.min(128).min(lent.len());
+    if from < end {
+        lent[from..end].copy_from_slice(&table[from..end]);
     }
 }
 
 /// The records in which two tables differ, from the first to the last.
-pub fn changed(old: [Loan; 128], new: [Loan; 128]) -> Range
+#[tactic(auto, unfolding(crate::specs::Lent::changed_in))]
+pub fn changed(old: [Loan; 128], new: [Loan; 128]) -> Range<usize>
     ensures { result ≡ changed_in old new }
 {
-    let from = first_change(old, new);
-    let to = after_change(old, new);
-    Range { from, to }
+    first_change(old, new)..after_change(old, new)
 }
 
 fn first_change(old: [Loan; 128], new: [Loan; 128]) -> usize
     ensures { result ≡ first_change old new }
 {
-    let mut i: usize = 0;
-    while i < 128 {
-        let x = old[i];
-        let y = new[i];
-        if same_loan(x, y) {
-            i += 1;
-        } else {
-            return i;
-        }
-    }
-    i
+    old.iter()
+        .zip(new.iter())
+        .position(|(x, y)| x != y)
+        .unwrap_or(128)
 }
 
 fn after_change(old: [Loan; 128], new: [Loan; 128]) -> usize
     ensures { result ≡ after_change old new }
 {
-    let mut i: usize = 128;
-    while 0 < i {
-        let last = i - 1;
-        let x = old[last];
-        let y = new[last];
-        if same_loan(x, y) {
-            i = last;
-        } else {
-            return i;
+    for i in (0..128).rev() {
+        if old[i] != new[i] {
+            return i + 1;
         }
     }
     0
@@ -547,97 +447,43 @@ fn after_change(old: [Loan; 128], new: [Loan; 128]) -> usize
 pub fn no_loans() -> [Loan; 128]
     ensures { result ≡ no_loans }
 {
-    let z = zero_loan();
-    [z; 128]
-}
-
-fn as_lent(table: [Loan; 128], length: usize) -> Lent
-    ensures { result ≡ lent_as table length }
-{
-    Lent { table, length }
-}
-
-fn put(table: [Loan; 128], at: usize, loan: Loan) -> [Loan; 128]
-    requires { at < 128 }
-    ensures { result ≡ set table at loan }
-{
-    let mut t = table;
-    t[at] = loan;
-    t
-}
-
-fn pick(table: [Loan; 128], at: usize) -> Loan
-    requires { at < 128 }
-    ensures { result ≡ get_or table at zero_loan }
-{
-    table[at]
-}
-
-// Where the writing of a table of 128 records up to `to` into a slice ends.
-fn end_of(length: usize, to: usize) -> usize
-    ensures { result ≡ min (min to 128) length }
-{
-    let n = within(to);
-    if n < length {
-        return n;
-    }
-    length
+    [Loan::default(); 128]
 }
 
 // ---- one loan
 
-fn same_loan(x: Loan, y: Loan) -> bool
-    ensures { result ≡ is_same x y }
-{
-    ((x.kind == y.kind) & (x.receiver == y.receiver))
-        & ((x.provider == y.provider) & ((x.uri == y.uri) & (x.operations == y.operations)))
-}
-
+#[tactic(auto, unfolding(state::specs::Tables::is_loan))]
 fn is_loan(loan: Loan, receiver: Receiver, provider: u16, uri: u16) -> bool
     ensures { result ≡ is_loan (receiver_of receiver) provider uri loan }
 {
     is_to(loan, receiver) & is_on(loan, provider, uri)
 }
 
+#[tactic(auto, unfolding(state::specs::Tables::is_to))]
 fn is_to(loan: Loan, receiver: Receiver) -> bool
     ensures { result ≡ is_to (receiver_of receiver) loan }
 {
-    (loan.kind == kind_of(receiver)) & (loan.receiver == number_of(receiver))
+    (loan.kind == receiver.kind()) & (loan.receiver == receiver.number())
 }
 
+#[tactic(auto, unfolding(state::specs::Tables::is_on))]
 fn is_on(loan: Loan, provider: u16, uri: u16) -> bool
     ensures { result ≡ is_on provider uri loan }
 {
     (loan.provider == provider) & (loan.uri == uri)
 }
 
-fn kind_of(receiver: Receiver) -> u8
-    ensures { result ≡ receiver_kind (receiver_of receiver) }
-{
-    match receiver {
-        Receiver::Instance(_) => 1,
-        Receiver::App(_) => 2,
-    }
-}
-
-fn number_of(receiver: Receiver) -> u16
-    ensures { result ≡ receiver_number (receiver_of receiver) }
-{
-    match receiver {
-        Receiver::Instance(n) => n,
-        Receiver::App(n) => n,
-    }
-}
-
+#[tactic(auto, unfolding(rules::specs::Action::carries))]
 fn carries(operation: Operation, operations: u8) -> bool
     ensures { result ≡ carries (op_of operation) operations }
 {
     match operation {
-        Operation::Read => (operations == 1) | (operations == 3),
-        Operation::Write => (operations == 2) | (operations == 3),
+        Operation::Read => matches!(operations, 1 | 3),
+        Operation::Write => matches!(operations, 2 | 3),
     }
 }
 
+#[tactic(auto, unfolding(state::specs::Effects::carries_any))]
 fn carries_any(loan: Loan) -> bool
     ensures { result ≡ carries_any loan }
 {
@@ -647,42 +493,33 @@ fn carries_any(loan: Loan) -> bool
 fn operations_of(reads: bool, writes: bool) -> u8
     ensures { result ≡ operations_of (by_op reads writes) }
 {
-    if reads {
-        if writes {
-            return 3;
-        }
-        return 1;
-    }
-    if writes {
-        return 2;
-    }
-    0
+    u8::from(reads) + 2 * u8::from(writes)
 }
 
+#[tactic(auto, unfolding(state::specs::Effects::with_operations))]
 fn with_operations(loan: Loan, reads: bool, writes: bool) -> Loan
     ensures { result ≡ with_operations (by_op reads writes) loan }
 {
     Loan {
-        kind: loan.kind,
-        receiver: loan.receiver,
-        provider: loan.provider,
-        uri: loan.uri,
         operations: operations_of(reads, writes),
+        ..loan
     }
 }
 
+#[tactic(auto, unfolding(state::specs::Effects::loan_of))]
 fn loan_of(receiver: Receiver, provider: u16, uri: u16, operations: u8) -> Loan
     ensures { result ≡ loan_of (receiver_of receiver) provider uri operations }
 {
     Loan {
-        kind: kind_of(receiver),
-        receiver: number_of(receiver),
+        kind: receiver.kind(),
+        receiver: receiver.number(),
         provider,
         uri,
         operations,
     }
 }
 
+#[tactic(auto, unfolding(state::specs::Effects::widened, state::specs::Effects::with_operations))]
 fn widened(loan: Loan, receiver: Receiver, provider: u16, uri: u16, operations: u8) -> Loan
     ensures { result ≡ widened (receiver_of receiver) provider uri operations loan }
 {
@@ -695,6 +532,7 @@ fn widened(loan: Loan, receiver: Receiver, provider: u16, uri: u16, operations: 
 }
 
 // A loan with those of its operations that it is to keep.
+#[tactic(auto, unfolding(state::specs::Effects::kept, state::specs::Effects::with_operations))]
 fn keep_operations(loan: Loan, reads: bool, writes: bool) -> Loan
     ensures { result ≡ kept (λ x op. by_op reads writes op) loan }
 {
@@ -703,6 +541,7 @@ fn keep_operations(loan: Loan, reads: bool, writes: bool) -> Loan
     with_operations(loan, carries_read & reads, carries_write & writes)
 }
 
+#[tactic(auto, unfolding(state::specs::Effects::kept))]
 fn kept_stop(loan: Loan, instance: u16) -> Loan
     ensures { result ≡ kept (keeps_stop instance) loan }
 {
@@ -710,6 +549,7 @@ fn kept_stop(loan: Loan, instance: u16) -> Loan
     keep_operations(loan, stays, stays)
 }
 
+#[tactic(auto, unfolding(state::specs::Effects::kept, state::specs::Effects::ends_with))]
 fn kept_uninstall(loan: Loan, parts: Parts, app: u16) -> Loan
     ensures { result ≡ kept (keeps_uninstall (parts_in parts) app) loan }
 {
@@ -718,6 +558,7 @@ fn kept_uninstall(loan: Loan, parts: Parts, app: u16) -> Loan
     keep_operations(loan, stays, stays)
 }
 
+#[tactic(auto, unfolding(state::specs::Effects::kept))]
 fn kept_withdraw(loan: Loan, provider: u16, uri: u16, operations: u8) -> Loan
     ensures { result ≡ kept (keeps_withdraw provider uri operations) loan }
 {
@@ -725,44 +566,4 @@ fn kept_withdraw(loan: Loan, provider: u16, uri: u16, operations: u8) -> Loan
     let reads = !(on & carries(Operation::Read, operations));
     let writes = !(on & carries(Operation::Write, operations));
     keep_operations(loan, reads, writes)
-}
-
-// ---- tables
-
-// How many places of the table a count holds.
-fn within(count: usize) -> usize
-    ensures { result ≡ min count 128 }
-{
-    if count < 128 {
-        return count;
-    }
-    128
-}
-
-fn zero_loan() -> Loan
-    ensures { result ≡ zero_loan }
-{
-    Loan {
-        kind: 0,
-        receiver: 0,
-        provider: 0,
-        uri: 0,
-        operations: 0,
-    }
-}
-
-// The first `count` entries, and zero past them.
-fn cut(loans: Loans, count: usize) -> Loans
-    ensures { result ≡ loans_table (take count loans.entries) }
-{
-    let n = within(count);
-    let z = zero_loan();
-    let mut t = loans;
-    let mut j = n;
-    while j < 128 {
-        t.entries[j] = z;
-        j += 1;
-    }
-    t.count = n;
-    t
 }

@@ -1,27 +1,16 @@
--- One turn of a loop over a section's entries, whatever the section: a loop that asks whether they rise, and one that
--- looks for an entry.
-use mathlib.Core.Path.{◌≡◌, sym, ap, ◌∙◌}
-use mathlib.Core.Bool.{Bool, true, false, ◌&&◌}
-use Prim.Native.Nat.{ℕ, ◌+◌, ◌-◌, ◌≤◌, ◌<◌}
-use lib.Dec.{ltb}
+-- A turn of a loop over a section's entries, whatever the section: the one that it reads, and those that are left.
+use Rattle.std.proofs.Common.{◌≡◌, ℕ, ◌+◌, ◌-◌, ◌*◌, ◌<◌, ◌≤◌, ◌∷◌, Bool, true, false, sym, ap, ◌∙◌, arith}
 use Rattle.manifest.specs.Layout.{entries}
+use Rattle.manifest.specs.Good.{any}
 use Rattle.manifest.specs.LayoutLaws.{entries-more, entries_none}
-use Rattle.manifest.specs.Good.{rising, any}
 
--- a turn of a loop that asks whether the entries rise: x is the entry that was read, and b what a test of it answered
-module _ {A : Type 0} (f : ℕ → A) (size : ℕ) (key : A → ℕ) (ok : A → Bool) (low i left : ℕ) where
-  pub rises-on : {x : A} {k : ℕ} {b : Bool} → 0 < left → x ≡ f i → k ≡ key x → b ≡ ok x → (ltb low k && b) ≡ true
-      → rising key ok low (entries f size i left) ≡ rising key ok k (entries f size (i + size) (left - 1))
-  rises-on {x} {k} {b} more read keyed told t =
-      rw (entries-more f size i left more, ← read, ← keyed, ← told, t)
-
-  pub rises-not : {x : A} {k : ℕ} {b : Bool} → 0 < left → x ≡ f i → k ≡ key x → b ≡ ok x → (ltb low k && b) ≡ false
-      → rising key ok low (entries f size i left) ≡ false
-  rises-not {x} {k} {b} more read keyed told t =
-      rw (entries-more f size i left more, ← read, ← keyed, ← told, t)
-
-  pub rises-all : left ≤ 0 → rising key ok low (entries f size i left) ≡ true
-  rises-all none = rw (entries_none f size i left none)
+module _ {A : Type 0} (f : ℕ → A) (size i n k : ℕ) where
+  pub entries_turn : k < n → entries f size (i + size * k) (n - k)
+      ≡ f (i + size * k) ∷ entries f size (i + size * (k + 1)) (n - (k + 1))
+  entries_turn h =
+      let p : i + size * k + size ≡ i + size * (k + 1) = omega arith in
+      let q : n - k - 1 ≡ n - (k + 1) = omega arith in
+      rw (entries-more f size (i + size * k) (n - k) (omega arith), p, q)
 
 -- a turn of a loop that looks for an entry
 module _ {A : Type 0} (f : ℕ → A) (size : ℕ) (ok : A → Bool) (i left : ℕ) where

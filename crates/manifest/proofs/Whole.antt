@@ -1,98 +1,114 @@
--- Bytes are a good manifest exactly if each section ends where the next begins, and the last ends with the bytes.
-use mathlib.Core.Path.{◌≡◌, refl}
-use mathlib.Core.List.{List}
-use mathlib.Core.Bool.{Bool, true, ◌&&◌}
-use Prim.Native.Nat.{ℕ, ◌+◌, ◌≤◌, ◌<◌}
-use native.Mathlib.Omega.{arith}
-use borrow.Author.Tests.{leb-true, le-leb, ltb-true, lt-ltb, eqb-true, eq-eqb}
-use lib.ListN.{length}
-use lib.Dec.{ltb, eqb}
-use Rattle.manifest.specs.declared.Place.TheVariants as place
+-- Bytes are a good manifest exactly if a reader finds each section good, and the last ends with the bytes.
+use Rattle.std.proofs.Common.{◌≡◌, refl, sym, ap, ℕ, ◌+◌, ◌≤◌, List, Bool, true, false, cond, ◌&&◌, length, arith}
+use Rattle.std.proofs.Common.{eqb, ltb, Some, None}
+use Rattle.std.specs.Bool.{then_some}
+use Rattle.std.proofs.Math.Bool.{and_assoc, and-false, and-true}
+use borrow.Author.Tests.{le-leb, eqb-true}
+use Rattle.manifest.specs.declared.Section.{Section}
 use Rattle.manifest.specs.Layout.{u8_at, u16_at, u32_at, define_at, component_at, resource_at, section, after}
 use Rattle.manifest.specs.Layout.{uses_place, defines_place, components_place, resources_place, end_place}
 use Rattle.manifest.specs.LayoutLaws.{length-entries}
 use Rattle.manifest.specs.Good.{uses_rise, defines_rise, components_rise, resources_rise, at_most, good_bytes}
-use Rattle.manifest.specs.Steps.{counted, end_of, uses_end, defines_end, components_end, resources_end}
-use Rattle.manifest.specs.GoodLaws.{and_parts}
-use Rattle.manifest.proofs.Counts.{counted-all, counted-fits, end-told}
+use Rattle.manifest.specs.Steps.{head_good, head_found, counted, found}
+use Rattle.manifest.specs.Verdict.{verdict_of}
 
--- a section's test in the list's words
-module _ {A : Type 0} (f : List ℕ → ℕ → A) (size most : ℕ) (s : List ℕ) (a : ℕ) (ok : Bool) where
-  few : (at_most most (section f size s a) && ok) ≡ true → (u8_at s a ≤ most) × (ok ≡ true)
-  few e =
-      let t = and_parts (at_most most (section f size s a)) ok e in
-      (leb-true _ _ (rw (length-entries (f s) size (a + 1) (u8_at s a)) at t.0), t.1)
+-- what the reader asks of a section is what the lists ask, where its entries lie within the bytes
+counted_few : {A : Type 0} (f : List ℕ → ℕ → A) (size most : ℕ) (s : List ℕ) (a : ℕ) (ok : Bool)
+    → after size s a ≤ length s → (at_most most (section f size s a) && ok) ≡ (counted size most s a && ok)
+counted_few f size most s a ok h = rw (length-entries (f s) size (a + 1) (u8_at s a), le-leb _ _ h)
 
-  of-few : u8_at s a ≤ most → ok ≡ true → (at_most most (section f size s a) && ok) ≡ true
-  of-few h t = rw (length-entries (f s) size (a + 1) (u8_at s a), le-leb (u8_at s a) most h, t)
+not_found : {A : Type 0} (x : A) (b : Bool) → None ≡ cond b (Some x) None → b ≡ false
+not_found x true e = cc
+not_found x false e = refl
 
-  section-end : after size s a ≤ length s → (at_most most (section f size s a) && ok) ≡ true → end_of size most s a ok
-      ≡ place.At (after size s a)
-  section-end h e = rw (counted-all size most s a h (few e).0, (few e).1)
+pub was_found : {A : Type 0} {y : A} (x : A) (b : Bool) → Some y ≡ cond b (Some x) None → (y ≡ x) × (b ≡ true)
+was_found x true e = (cc, refl)
+was_found x false e = (cc, cc)
 
-  of_end : {p : ℕ} → end_of size most s a ok ≡ place.At p → (at_most most (section f size s a) && ok) ≡ true
-  of_end e =
-      let t = and_parts (counted size most s a) ok (end-told size most s a ok refl e).1 in
-      of-few (counted-fits size most s a t.0).1 t.1
-
--- what good bytes come to, section by section
-pub record Facts (s : List ℕ) : Type 0 where
-  pub app : 0 < u16_at s 0
-  pub signer : 0 < u32_at s 2
-  pub uses : uses_end s uses_place ≡ place.At (defines_place s)
-  pub defines : defines_end s (defines_place s) ≡ place.At (components_place s)
-  pub components : components_end s (components_place s) ≡ place.At (resources_place s)
-  pub resources : resources_end s (components_place s) (resources_place s) ≡ place.At (end_place s)
-  pub ends : end_place s ≡ length s
+then_some_is : {A : Type 0} (b : Bool) (x : A) → then_some b x ≡ cond b (Some x) None
+then_some_is true x = refl
+then_some_is false x = refl
 
 module _ (s : List ℕ) where
-  -- the seven tests of good bytes, from the outermost in
-  tests : (a b c d e f g : Bool) → (a && (b && (c && (d && (e && (f && g)))))) ≡ true
-      → (a ≡ true) × (b ≡ true) × (c ≡ true) × (d ≡ true) × (e ≡ true) × (f ≡ true) × (g ≡ true)
-  tests a b c d e f g h =
-      let t1 = and_parts a _ h in
-      let t2 = and_parts b _ t1.1 in
-      let t3 = and_parts c _ t2.1 in
-      let t4 = and_parts d _ t3.1 in
-      let t5 = and_parts e _ t4.1 in
-      let t6 = and_parts f _ t5.1 in
-      (t1.0, t2.0, t3.0, t4.0, t5.0, t6.0, t6.1)
+  -- the entries of each section are as they should be
+  abbrev uses_rising : Bool
+  uses_rising = uses_rise 0 (section u8_at 1 s uses_place)
 
-  pub facts : good_bytes s ≡ true → Facts s
-  facts h =
-      let us = uses_rise 0 (section u8_at 1 s uses_place) in
-      let ds = defines_rise 0 (section define_at 3 s (defines_place s)) in
-      let cs = components_rise 0 (section component_at 8 s (components_place s)) in
-      let rs = resources_rise (section component_at 8 s (components_place s)) 0
-      (section resource_at 8 s (resources_place s)) in
-      let t = tests (eqb (end_place s) (length s)) (ltb 0 (u16_at s 0)) (ltb 0 (u32_at s 2))
-      (at_most 32 (section u8_at 1 s uses_place) && us)
-      (at_most 16 (section define_at 3 s (defines_place s)) && ds)
-      (at_most 16 (section component_at 8 s (components_place s)) && cs)
-      (at_most 32 (section resource_at 8 s (resources_place s)) && rs) h in
-      let ends : end_place s ≡ length s = eqb-true _ _ t.0 in
-      record {
-        app = ltb-true _ _ t.1;
-        signer = ltb-true _ _ t.2;
-        uses = section-end u8_at 1 32 s uses_place us (omega arith) t.3;
-        defines = section-end define_at 3 16 s (defines_place s) ds (omega arith) t.4;
-        components = section-end component_at 8 16 s (components_place s) cs (omega arith) t.5;
-        resources = section-end resource_at 8 32 s (resources_place s) rs (omega arith) t.6;
-        ends = ends;
-      }
+  abbrev defines_rising : Bool
+  defines_rising = defines_rise 0 (section define_at 3 s (defines_place s))
 
-  pub of-facts : Facts s → good_bytes s ≡ true
-  of-facts f =
-      let us = uses_rise 0 (section u8_at 1 s uses_place) in
-      let ds = defines_rise 0 (section define_at 3 s (defines_place s)) in
-      let cs = components_rise 0 (section component_at 8 s (components_place s)) in
-      let rs = resources_rise (section component_at 8 s (components_place s)) 0
-      (section resource_at 8 s (resources_place s)) in
-      let t0 = eq-eqb _ _ f.ends in
-      let t1 = lt-ltb _ _ f.app in
-      let t2 = lt-ltb _ _ f.signer in
-      let t3 = of_end u8_at 1 32 s uses_place us f.uses in
-      let t4 = of_end define_at 3 16 s (defines_place s) ds f.defines in
-      let t5 = of_end component_at 8 16 s (components_place s) cs f.components in
-      let t6 = of_end resource_at 8 32 s (resources_place s) rs f.resources in
-      rw (t0, t1, t2, t3, t4, t5, t6)
+  abbrev components_rising : Bool
+  components_rising = components_rise 0 (section component_at 8 s (components_place s))
+
+  abbrev resources_rising : Bool
+  resources_rising =
+      resources_rise (section component_at 8 s (components_place s)) 0 (section resource_at 8 s (resources_place s))
+
+  -- what the reader asks
+  abbrev asked : Bool
+  asked =
+      head_good s 0
+      && (counted 1 32 s uses_place && uses_rising
+      && (counted 3 16 s (defines_place s) && defines_rising
+      && (counted 8 16 s (components_place s) && components_rising
+      && (counted 8 32 s (resources_place s) && resources_rising))))
+
+  good_is : (b : Bool) → eqb (end_place s) (length s) ≡ b → good_bytes s ≡ (b && asked)
+  good_is false e = rw e
+  good_is true e =
+      let ends = eqb-true (end_place s) (length s) e in
+      rw (
+        e,
+        le-leb 6 (length s) (omega arith),
+        counted_few u8_at 1 32 s uses_place uses_rising (omega arith),
+        counted_few define_at 3 16 s (defines_place s) defines_rising (omega arith),
+        counted_few component_at 8 16 s (components_place s) components_rising (omega arith),
+        counted_few resource_at 8 32 s (resources_place s) resources_rising (omega arith),
+      ) (sym (and_assoc (ltb 0 (u16_at s 0)) (ltb 0 (u32_at s 2)) _))
+
+  -- a part that is refused
+  refused : asked ≡ false → None ≡ verdict_of s
+  refused e = rw (good_is (eqb (end_place s) (length s)) refl, e, and-false (eqb (end_place s) (length s)))
+
+  pub refused_uses : None ≡ found 1 32 s uses_place uses_rising → None ≡ verdict_of s
+  refused_uses e = refused (simp (not_found _ _ e, and-false))
+
+  pub refused_defines : None ≡ found 3 16 s (defines_place s) defines_rising → None ≡ verdict_of s
+  refused_defines e = refused (simp (not_found _ _ e, and-false))
+
+  pub refused_components : None ≡ found 8 16 s (components_place s) components_rising → None ≡ verdict_of s
+  refused_components e = refused (simp (not_found _ _ e, and-false))
+
+  pub refused_resources : None ≡ found 8 32 s (resources_place s) resources_rising → None ≡ verdict_of s
+  refused_resources e = refused (simp (not_found _ _ e, and-false))
+
+  -- all parts are found
+  pub all_found : {app signer : ℕ} {us ds cs rs : Section} → Some (app, signer) ≡ head_found s 0
+      → Some us ≡ found 1 32 s uses_place uses_rising
+      → Some ds ≡ found 3 16 s (defines_place s) defines_rising
+      → Some cs ≡ found 8 16 s (components_place s) components_rising
+      → Some rs ≡ found 8 32 s (resources_place s) resources_rising
+      → then_some (eqb (end_place s) (length s))
+      (record { app = app; signer = signer; uses = us; defines = ds; components = cs; resources = rs })
+      ≡ verdict_of s
+  all_found h u d c r =
+      let h' = was_found _ _ h in
+      let u' = was_found _ _ u in
+      let d' = was_found _ _ d in
+      let c' = was_found _ _ c in
+      let r' = was_found _ _ r in
+      rw (
+        good_is (eqb (end_place s) (length s)) refl,
+        h'.1,
+        u'.1,
+        d'.1,
+        c'.1,
+        r'.1,
+        and-true (eqb (end_place s) (length s)),
+        ap (λ p. p.0) h'.0,
+        ap (λ p. p.1) h'.0,
+        u'.0,
+        d'.0,
+        c'.0,
+        r'.0,
+      ) (then_some_is _ _)

@@ -1,6 +1,7 @@
 -- What makes a manifest good, as tests on its lists, and which bytes are a good manifest.
 -- Document 01, "The manifest, in sections": the text under the table.
 use Rattle.std.specs.Prelude.{ℕ, ◌+◌, ◌*◌, List, [], ◌∷◌, Bool, true, false, ◌&&◌, ◌||◌, not, length, eqb, ltb, leb}
+pub use Rattle.std.specs.List.{list_any as any, list_all as all}
 use Rattle.manifest.specs.declared.Define.{Define}
 use Rattle.manifest.specs.declared.Component.{Component}
 use Rattle.manifest.specs.declared.Resource.{Resource}
@@ -10,14 +11,6 @@ use Rattle.manifest.specs.Layout.{Manifest, laid_out, end_place}
 abbrev pub rising : {A : Type 0} → (A → ℕ) → (A → Bool) → ℕ → List A → Bool
 rising key ok low [] = true
 rising key ok low (x ∷ xs) = (ltb low (key x) && ok x) && rising key ok (key x) xs
-
-abbrev pub any : {A : Type 0} → (A → Bool) → List A → Bool
-any ok [] = false
-any ok (x ∷ xs) = ok x || any ok xs
-
-unfoldable pub all : {A : Type 0} → (A → Bool) → List A → Bool
-all ok [] = true
-all ok (x ∷ xs) = ok x && all ok xs
 
 abbrev pub at_most : {A : Type 0} → ℕ → List A → Bool
 at_most n xs = leb (length xs) n

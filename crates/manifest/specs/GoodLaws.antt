@@ -42,7 +42,6 @@ good-parts m h =
 module _ {A : Type 0} (key : A → ℕ) (ok : A → Bool) where
   -- entries that rise each pass their test
   pub all-rising : (low : ℕ) (xs : List A) → rising key ok low xs ≡ true → all ok xs ≡ true
-  unfolding all
   all-rising low [] h = refl
   all-rising low (x ∷ xs) h =
       let t = and_parts (ltb low (key x) && ok x) (rising key ok (key x) xs) h in
@@ -50,7 +49,6 @@ module _ {A : Type 0} (key : A → ℕ) (ok : A → Bool) where
 
   -- and their keys are all above the one that they rise from
   pub all_above : (low : ℕ) (xs : List A) → rising key ok low xs ≡ true → all (λ x. ltb low (key x)) xs ≡ true
-  unfolding all
   all_above low [] h = refl
   all_above low (x ∷ xs) h =
       let t = and_parts (ltb low (key x) && ok x) (rising key ok (key x) xs) h in

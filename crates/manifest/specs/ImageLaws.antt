@@ -384,7 +384,6 @@ module _ (s : List ℕ) (bytes : (k : ℕ) → u8_at s k < 256) where
 -- ---- the image consists of bytes
 all_append : {A : Type 0} (ok : A → Bool) (xs ys : List A) → all ok xs ≡ true → all ok ys ≡ true → all ok (xs ++ ys)
     ≡ true
-unfolding all
 all_append ok [] ys h k = k
 all_append ok (x ∷ xs) ys h k =
     let t = and_parts (ok x) (all ok xs) h in
@@ -394,7 +393,6 @@ byte : (n : ℕ) → n < 256 → is_byte n ≡ true
 byte n h = lt-ltb n 256 h
 
 two_bytes : (n : ℕ) → is16 n ≡ true → all is_byte (le16 n) ≡ true
-unfolding all
 two_bytes n h =
     let k = ltb-true n 65536 h in
     rw (byte (n % 256) (omega arith), byte (n / 256) (omega arith))
@@ -409,7 +407,6 @@ four_bytes n h =
 -- a section is bytes if its count is below 256 and each entry's bytes are bytes
 module _ {A : Type 0} (w : A → List ℕ) (ok : A → Bool) (are : (x : A) → ok x ≡ true → all is_byte (w x) ≡ true) where
   joined_bytes : (xs : List A) → all ok xs ≡ true → all is_byte (joined w xs) ≡ true
-  unfolding all
   joined_bytes [] h = refl
   joined_bytes (x ∷ xs) h =
       let t = and_parts (ok x) (all ok xs) h in
@@ -417,7 +414,6 @@ module _ {A : Type 0} (w : A → List ℕ) (ok : A → Bool) (are : (x : A) → 
 
   section-bytes : (most : ℕ) (xs : List A) → most < 256 → at_most most xs ≡ true → all ok xs ≡ true
       → all is_byte (section_bytes w xs) ≡ true
-  unfolding all
   section-bytes most xs small few h =
       let k = leb-true (length xs) most few in
       rw (byte (length xs) (omega arith)) (joined_bytes xs h)
@@ -425,7 +421,6 @@ module _ {A : Type 0} (w : A → List ℕ) (ok : A → Bool) (are : (x : A) → 
 -- two tests at once
 all_both : {A : Type 0} (f g : A → Bool) (xs : List A) → all f xs ≡ true → all g xs ≡ true → all (λ x. f x && g x) xs
     ≡ true
-unfolding all
 all_both f g [] h k = refl
 all_both f g (x ∷ xs) h k =
     let t = and_parts (f x) (all f xs) h in
@@ -433,7 +428,6 @@ all_both f g (x ∷ xs) h k =
     rw (t.0, u.0) (all_both f g xs t.1 u.1)
 
 use-is-bytes : (p : ℕ) → good_use p ≡ true → all is_byte (use_bytes p) ≡ true
-unfolding all
 use-is-bytes p h =
     let k = leb-true p 63 h in
     rw (byte p (omega arith))
@@ -446,7 +440,6 @@ parts-4 a b c d h =
     ((and_parts a b u.0).1, u.1, t.1)
 
 define-is-bytes : (d : Define) → good_define d ≡ true → all is_byte (define_bytes d) ≡ true
-unfolding all
 define-is-bytes d h =
     let t = and_parts (leb 16 d.permission && leb d.permission 63 && leb d.level 3 && leb d.group 15)
     (eqb d.level 1 || eqb d.group 0) h in
@@ -458,7 +451,6 @@ define-is-bytes d h =
 
 component-is-bytes : (c : Component) → (good_component c && is16 c.number) ≡ true → all is_byte (component_bytes c)
     ≡ true
-unfolding all
 component-is-bytes c h =
     let t = and_parts (good_component c) (is16 c.number) h in
     let early : Bool = leb 1 c.kind && leb c.kind 4 && leb c.exported 1 && leb c.shares 1 in
@@ -552,7 +544,6 @@ image-length m h =
 -- ---- bytes are accepted exactly if they are the image of a good manifest
 all-entries : {A : Type 0} (ok : A → Bool) (f : ℕ → A) (size : ℕ) → ((a : ℕ) → ok (f a) ≡ true) → (a n : ℕ)
     → all ok (entries f size a n) ≡ true
-unfolding all
 all-entries ok f size h a zero = refl
 all-entries ok f size h a (suc n) = rw (h a) (all-entries ok f size h (a + size) n)
 

@@ -5,5 +5,6 @@ pub mod GoodLaws
 pub mod Image
 pub mod ImageLaws
 pub mod Verdict
+pub mod VerdictLaws
 pub mod Steps
 pub mod Unique

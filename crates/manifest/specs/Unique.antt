@@ -1,11 +1,11 @@
 -- No two differing results meet the contract of a public function: each contract is one equation for the whole result.
 -- Document 01, "What the contracts have to say".
-use Rattle.std.specs.Prelude.{ℕ, ◌≡◌, List, Bool}
+use Rattle.std.specs.Prelude.{ℕ, ◌≡◌, List, Bool, Option}
 use Rattle.std.proofs.Common.{sym, ◌∙◌}
 use Rattle.manifest.specs.declared.Define.{Define}
 use Rattle.manifest.specs.declared.Component.{Component}
 use Rattle.manifest.specs.declared.Resource.{Resource}
-use Rattle.manifest.specs.declared.Verdict.{Verdict}
+use Rattle.manifest.specs.declared.Sections.{Sections}
 use Rattle.manifest.specs.Layout.{u8_at, define_at, component_at, resource_at}
 use Rattle.manifest.specs.Good.{good_define, good_component, resource_key}
 use Rattle.manifest.specs.Verdict.{verdict_of, answer_of, entry_at, zero_define, zero_component, zero_resource}
@@ -17,7 +17,7 @@ only_one it r r' e e' = e ∙ sym e'
 pub manifest-check-only : (s : List ℕ) (r r' : ℕ) → r ≡ answer_of s → r' ≡ answer_of s → r ≡ r'
 manifest-check-only s = only_one (answer_of s)
 
-pub check-only : (s : List ℕ) (r r' : Verdict) → r ≡ verdict_of s → r' ≡ verdict_of s → r ≡ r'
+pub check-only : (s : List ℕ) (r r' : Option Sections) → r ≡ verdict_of s → r' ≡ verdict_of s → r ≡ r'
 check-only s = only_one (verdict_of s)
 
 pub byte-at-only : (s : List ℕ) (at r r' : ℕ) → r ≡ u8_at s at → r' ≡ u8_at s at → r ≡ r'

@@ -1,10 +1,8 @@
 -- What the reader answers: where the sections of a good manifest stand, or that the bytes are none.
 -- Document 01, "The manifest, in sections", and the packing tool's number of "What the monitor covers".
-use Rattle.std.specs.Prelude.{ℕ, ◌+◌, List, cond, length, leb}
+use Rattle.std.specs.Prelude.{ℕ, ◌+◌, List, cond, length, leb, Option, Some, None}
 use Rattle.manifest.specs.declared.Section.{Section}
 use Rattle.manifest.specs.declared.Sections.{Sections}
-use Rattle.manifest.specs.declared.Verdict.{Verdict}
-use Rattle.manifest.specs.declared.Verdict.TheVariants.{Good, Malformed}
 use Rattle.manifest.specs.declared.Define.{Define}
 use Rattle.manifest.specs.declared.Component.{Component}
 use Rattle.manifest.specs.declared.Resource.{Resource}
@@ -26,13 +24,13 @@ sections_of s =
       resources = section_of s (resources_place s);
     }
 
-abbrev pub verdict_of : List ℕ → Verdict
-verdict_of s = cond (good_bytes s) (Good (sections_of s)) Malformed
+abbrev pub verdict_of : List ℕ → Option Sections
+verdict_of s = cond (good_bytes s) (Some (sections_of s)) None
 
 -- document 01's numbers: 0 for a good manifest, 3 for any other bytes
-abbrev pub number_of : Verdict → ℕ
-number_of (Good m) = 0
-number_of Malformed = 3
+abbrev pub number_of : Option Sections → ℕ
+number_of (Some m) = 0
+number_of None = 3
 
 abbrev pub answer_of : List ℕ → ℕ
 answer_of s = cond (good_bytes s) 0 3

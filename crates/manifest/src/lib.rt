@@ -1,25 +1,28 @@
 //! Reads a manifest: is it good, and where do its sections stand. Document 01, "The manifest, in sections".
 #![tactic(auto)]
 
-ghost use Rattle.std.specs.Prelude.{◌≡◌, true, ◌+◌, ◌*◌, ◌≤◌, ◌<◌, length, leb};
-ghost use Rattle.manifest.specs.Layout.{u8_at, u16_at, u32_at, define_at, component_at, resource_at, entries, after};
-ghost use Rattle.manifest.specs.Good.{any, good_define, good_component, is_provider_of, uses_rise, defines_rise};
-ghost use Rattle.manifest.specs.Good.{components_rise, resources_rise, resource_key};
-ghost use Rattle.manifest.specs.Verdict.{section_of, sections_of, verdict_of, answer_of, entry_at, zero_define};
-ghost use Rattle.manifest.specs.Verdict.{zero_component, zero_resource};
-ghost use Rattle.manifest.specs.Steps.{count_of, uses_end, defines_end, components_end, resources_end, head_end};
-ghost use Rattle.manifest.specs.Steps.{rest_end, part_end, passed, end_verdict};
+ghost use Rattle.std.specs.Prelude.{◌≡◌, refl, true, ◌+◌, ◌*◌, ◌≤◌, ◌<◌, List, Bool, ℕ, length, leb, ltb};
+ghost use Rattle.std.specs.Prelude.{IfSome, option_map};
+ghost use Rattle.manifest.specs.Layout.{u8_at, u16_at, u32_at, define_at, component_at, resource_at, entries, section};
+ghost use Rattle.manifest.specs.Layout.{after};
+ghost use Rattle.manifest.specs.Good.{any, rising, good_use, good_define, good_component, is_provider_of};
+ghost use Rattle.manifest.specs.Good.{resources_rise, resource_key};
+ghost use Rattle.manifest.specs.Verdict.{verdict_of, answer_of, entry_at, zero_define, zero_component, zero_resource};
+ghost use Rattle.manifest.specs.Steps.{head_found, found, listed};
 
-/// An entry of the section defines.
-#[derive(Clone, Copy)]
+use std::marker::PhantomData;
+
+/// An entry of the section defines. Level and group are bytes and no enums, since `good_define` is asked of every byte.
+#[derive(Clone, Copy, PartialEq, Eq, Default)]
 pub struct Define {
     pub permission: u8,
     pub level: u8,
     pub group: u8,
 }
 
-/// An entry of the section components.
-#[derive(Clone, Copy)]
+/// An entry of the section components. Kind and flags are bytes and no enums, since `good_component` is asked of every
+/// byte.
+#[derive(Clone, Copy, PartialEq, Eq, Default)]
 pub struct Component {
     pub number: u16,
     pub kind: u8,
@@ -31,7 +34,7 @@ pub struct Component {
 }
 
 /// An entry of the section resources; `value` is its first value.
-#[derive(Clone, Copy)]
+#[derive(Clone, Copy, PartialEq, Eq, Default)]
 pub struct Resource {
     pub provider: u16,
     pub uri: u16,
@@ -39,14 +42,14 @@ pub struct Resource {
 }
 
 /// Where the first entry of a section stands, and how many entries there are.
-#[derive(Clone, Copy)]
+#[derive(Clone, Copy, PartialEq, Eq)]
 pub struct Section {
     pub first: usize,
     pub count: u8,
 }
 
 /// What the sections of a good manifest hold, and where.
-#[derive(Clone, Copy)]
+#[derive(Clone, Copy, PartialEq, Eq)]
 pub struct Sections {
     pub app: u16,
     pub signer: u32,
@@ -56,13 +59,6 @@ pub struct Sections {
     pub resources: Section,
 }
 
-/// What a manifest's bytes are found to be.
-#[derive(Clone, Copy)]
-pub enum Verdict {
-    Good(Sections),
-    Malformed,
-}
-
 /// The manifest's bytes and the place that was reached in them.
 #[derive(Clone, Copy)]
 pub struct Reader<'a> {
@@ -70,18 +66,292 @@ pub struct Reader<'a> {
     pub at: usize,
 }
 
-/// Where a part of a manifest ends, or that it is malformed.
-#[derive(Clone, Copy)]
-enum Place {
-    At(usize),
-    Refused,
+/// An entry of a section: its size, how it is read, the key by which a section's entries rise, and its own test.
+trait Entry: Copy {
+    ghost SIZE: { ℕ };
+
+    ghost entry: { List ℕ → ℕ → Self };
+
+    ghost key: { Self → ℕ };
+
+    ghost good: { Self → Bool };
+
+    const SIZE: usize;
+
+    fn read(s: &[u8], at: usize) -> Self
+        requires { at + SIZE ≤ length s.now }
+        ensures { result ≡ entry s.now at };
+
+    fn key(self) -> u32
+        ensures { result ≡ key self };
+
+    fn good(self) -> bool
+        ensures { result ≡ good self };
+
+    ghost small: { leb SIZE 8 ≡ true };
 }
 
-/// How many entries a section has, or that they are too many or not all there.
-#[derive(Clone, Copy)]
-enum Count {
-    Of(usize),
-    Refused,
+/// An entry of the section uses is a permission.
+impl Entry for u8 {
+    ghost SIZE = { 1 };
+
+    ghost entry = { u8_at };
+
+    ghost key = { λ p. p };
+
+    ghost good = { good_use };
+
+    ghost small = { refl };
+
+    const SIZE: usize = 1;
+
+    fn read(s: &[u8], at: usize) -> u8 {
+        s[at]
+    }
+
+    fn key(self) -> u32 {
+        u32::from(self)
+    }
+
+    fn good(self) -> bool {
+        self <= 63
+    }
+}
+
+impl Entry for Define {
+    ghost SIZE = { 3 };
+
+    ghost entry = { define_at };
+
+    ghost key = { λ d. d.permission };
+
+    ghost good = { good_define };
+
+    ghost small = { refl };
+
+    const SIZE: usize = 3;
+
+    fn read(s: &[u8], at: usize) -> Define {
+        Define {
+            permission: s[at],
+            level: s[at + 1],
+            group: s[at + 2],
+        }
+    }
+
+    fn key(self) -> u32 {
+        u32::from(self.permission)
+    }
+
+    fn good(self) -> bool {
+        good_define(self)
+    }
+}
+
+impl Entry for Component {
+    ghost SIZE = { 8 };
+
+    ghost entry = { component_at };
+
+    ghost key = { λ c. c.number };
+
+    ghost good = { good_component };
+
+    ghost small = { refl };
+
+    const SIZE: usize = 8;
+
+    fn read(s: &[u8], at: usize) -> Component {
+        Component {
+            number: u16_from(s, at),
+            kind: s[at + 2],
+            exported: s[at + 3],
+            shares: s[at + 4],
+            start: s[at + 5],
+            read: s[at + 6],
+            write: s[at + 7],
+        }
+    }
+
+    fn key(self) -> u32 {
+        u32::from(self.number)
+    }
+
+    fn good(self) -> bool {
+        good_component(self)
+    }
+}
+
+/// A resource's own test is on its URI alone. Its provider is looked for among the components, in `resources_rise`.
+impl Entry for Resource {
+    ghost SIZE = { 8 };
+
+    ghost entry = { resource_at };
+
+    ghost key = { resource_key };
+
+    ghost good = { λ r. ltb 0 r.uri };
+
+    ghost small = { refl };
+
+    const SIZE: usize = 8;
+
+    fn read(s: &[u8], at: usize) -> Resource {
+        Resource {
+            provider: u16_from(s, at),
+            uri: u16_from(s, at + 2),
+            value: u32_from(s, at + 4),
+        }
+    }
+
+    fn key(self) -> u32 {
+        resource_key(self)
+    }
+
+    fn good(self) -> bool {
+        0 < self.uri
+    }
+}
+
+/// A section whose entries are all there, and the bytes that they are in.
+#[derive(Drop)]
+struct Entries<'a, E: Entry> {
+    src: &'a [u8],
+    section: Section,
+    of: PhantomData<E>,
+    ghost within: { section.first + E.SIZE * section.count ≤ length src.now },
+}
+
+impl<'a> Reader<'a> {
+    /// Passes the app number and the signer.
+    fn head(&mut self) -> Option<(u16, u32)>
+        ensures same { self.new.src ≡ self.old.src }
+        ensures value { result ≡ head_found self.old.src.now self.old.at }
+        ensures passed { IfSome result (λ _. self.new.at ≡ self.old.at + 6) }
+    {
+        let head = head_at(self.src, self.at)?;
+        self.at += 6;
+        Some(head)
+    }
+
+    /// Passes a section that has at most so many entries, each good by itself.
+    fn section<E: Entry>(&mut self, most: usize) -> Option<Entries<'a, E>>
+        ensures same { self.new.src ≡ self.old.src }
+        ensures lists { IfSome result (λ x. x.src ≡ self.old.src) }
+        ensures value { option_map (λ x. x.section) result ≡ found E.SIZE most self.old.src.now self.old.at
+            (rising E.key E.good 0 (section E.entry E.SIZE self.old.src.now self.old.at)) }
+        ensures passed { IfSome result (λ _. self.new.at ≡ after E.SIZE self.old.src.now self.old.at) }
+    {
+        let entries = section_at(self.src, self.at, most)?;
+        self.at = entries.end();
+        Some(entries)
+    }
+
+    /// Passes the resources. Not by `section`, since what a resource has to pass takes the components too.
+    fn resources(&mut self, components: &Entries<'a, Component>) -> Option<Entries<'a, Resource>>
+        ensures same { self.new.src ≡ self.old.src }
+        ensures value { option_map (λ x. x.section) result ≡ found 8 32 self.old.src.now self.old.at
+            (resources_rise (listed component_at 8 components.now.src.now components.now.section) 0
+            (section resource_at 8 self.old.src.now self.old.at)) }
+        ensures passed { IfSome result (λ _. self.new.at ≡ after 8 self.old.src.now self.old.at) }
+    {
+        let entries = resources_at(self.src, self.at, components)?;
+        self.at = entries.end();
+        Some(entries)
+    }
+}
+
+impl<'a, E: Entry> Entries<'a, E> {
+    /// The section at a place, if it has at most so many entries and they are all there.
+    fn counted(src: &'a [u8], at: usize, most: usize) -> Option<Entries<'a, E>>
+        ensures lists { IfSome result (λ x. x.src ≡ src.entry) }
+        ensures value { option_map (λ x. x.section) result ≡ found E.SIZE most src.entry.now at true }
+    {
+        let count = *src.get(at)?;
+        let n = usize::from(count);
+        if most < n || src.len() - (at + 1) < E::SIZE * n {
+            return None;
+        }
+        let section = Section {
+            first: at + 1,
+            count,
+        };
+        Some(Entries {
+            src,
+            section,
+            of: PhantomData,
+        })
+    }
+
+    /// The place after them.
+    fn end(&self) -> usize
+        ensures { result ≡ self.now.section.first + E.SIZE * self.now.section.count }
+    {
+        self.section.first + E::SIZE * usize::from(self.section.count)
+    }
+
+    fn get(&self, k: usize) -> E
+        requires { k < self.now.section.count }
+        ensures { result ≡ E.entry self.now.src.now (self.now.section.first + E.SIZE * k) }
+    {
+        E::read(self.src, self.section.first + E::SIZE * k)
+    }
+
+    /// Each is good by itself, and their keys rise.
+    #[tactic(auto, using(crate::proofs::Turns::entries_turn))]
+    fn rise(&self) -> bool
+        ensures { result ≡ rising E.key E.good 0 (listed E.entry E.SIZE self.now.src.now self.now.section) }
+    {
+        let mut low = 0;
+        for k in 0..usize::from(self.section.count) {
+            let entry = self.get(k);
+            let key = entry.key();
+            if key <= low || !entry.good() {
+                return false;
+            }
+            low = key;
+        }
+        true
+    }
+}
+
+impl<'a> Entries<'a, Component> {
+    /// A provider of the number `p` is among them.
+    #[tactic(auto, using(crate::proofs::Turns::entries_turn))]
+    fn has_provider(&self, p: u16) -> bool
+        ensures { result ≡ any (is_provider_of p) (listed component_at 8 self.now.src.now self.now.section) }
+    {
+        for k in 0..usize::from(self.section.count) {
+            if is_provider_of(self.get(k), p) {
+                return true;
+            }
+        }
+        false
+    }
+}
+
+impl<'a> Entries<'a, Resource> {
+    /// Each is good, of a provider among the components, and their keys rise. Resources mostly have the same provider
+    /// as the one before, `last`, which is not searched for again.
+    #[tactic(auto, using(crate::proofs::Turns::entries_turn))]
+    fn rise_among(&self, components: &Entries<'a, Component>) -> bool
+        ensures { result ≡ resources_rise (listed component_at 8 components.now.src.now components.now.section) 0
+            (listed resource_at 8 self.now.src.now self.now.section) }
+    {
+        let mut low = 0;
+        let mut last = None;
+        for k in 0..usize::from(self.section.count) {
+            let r = self.get(k);
+            let key = r.key();
+            let known = last == Some(r.provider) || components.has_provider(r.provider);
+            if key <= low || !r.good() || !known {
+                return false;
+            }
+            low = key;
+            last = Some(r.provider);
+        }
+        true
+    }
 }
 
 /// The packing tool's question: 0 for a good manifest, 3 for any other bytes. The crate manifest_c exports it to C.
@@ -89,501 +359,162 @@ pub fn manifest_check(bytes: &[u8]) -> u32
     ensures { result ≡ answer_of bytes.now }
 {
     match check(bytes) {
-        Verdict::Good(_) => 0,
-        Verdict::Malformed => 3,
+        Some(_) => 0,
+        None => 3,
     }
 }
 
-/// The whole check: a reader goes through the sections once, front to back.
-pub fn check(bytes: &[u8]) -> Verdict
+/// The sections of a good manifest, none of other bytes: a reader goes through them once, front to back.
+pub fn check(bytes: &[u8]) -> Option<Sections>
     ensures { result ≡ verdict_of bytes.now }
 {
-    ended(pass(pass(pass(pass(open(bytes), 0), 1), 2), 3))
+    let mut reader = Reader { src: bytes, at: 0 };
+    let (app, signer) = reader.head()?;
+    let uses = reader.section::<u8>(32)?;
+    let defines = reader.section::<Define>(16)?;
+    let components = reader.section::<Component>(16)?;
+    let resources = reader.resources(&components)?;
+    (reader.at == bytes.len()).then_some(Sections {
+        app,
+        signer,
+        uses: uses.section,
+        defines: defines.section,
+        components: components.section,
+        resources: resources.section,
+    })
 }
 
 /// The byte at a place, 0 past the end. An entry of the section uses is one byte.
 pub fn byte_at(s: &[u8], at: usize) -> u8
     ensures { result ≡ u8_at s.now at }
 {
-    if at < s.len() {
-        return s[at];
-    }
-    0
+    s.get(at).copied().unwrap_or(0)
 }
 
-/// The define, the component and the resource at a place; one that is not all there reads as zeros.
+/// The define, the component and the resource at a place; one that is not all there reads as zeros. `Entry` and
+/// `entry_or` stay private, since no function that other crates reach has a `requires`, as `Entry::read` has.
 pub fn define_at(s: &[u8], at: usize) -> Define
     ensures { result ≡ entry_at zero_define define_at 3 s.now at }
 {
-    if all_there(s, at, 3) {
-        return define_from(s, at);
-    }
-    Define {
-        permission: 0,
-        level: 0,
-        group: 0,
-    }
+    entry_or(s, at, Define::default())
 }
 
 pub fn component_at(s: &[u8], at: usize) -> Component
     ensures { result ≡ entry_at zero_component component_at 8 s.now at }
 {
-    if all_there(s, at, 8) {
-        return component_from(s, at);
-    }
-    Component {
-        number: 0,
-        kind: 0,
-        exported: 0,
-        shares: 0,
-        start: 0,
-        read: 0,
-        write: 0,
-    }
+    entry_or(s, at, Component::default())
 }
 
 pub fn resource_at(s: &[u8], at: usize) -> Resource
     ensures { result ≡ entry_at zero_resource resource_at 8 s.now at }
 {
-    if all_there(s, at, 8) {
-        return resource_from(s, at);
-    }
-    Resource {
-        provider: 0,
-        uri: 0,
-        value: 0,
-    }
+    entry_or(s, at, Resource::default())
 }
 
-/// A reader at the front of the bytes.
-fn open<'a>(src: &'a [u8]) -> Reader<'a>
-    ensures { (result.src ≡ src.entry) × (result.at ≡ 0) }
+fn entry_or<E: Entry>(s: &[u8], at: usize, zeros: E) -> E
+    ensures { result ≡ entry_at zeros E.entry E.SIZE s.now at }
 {
-    Reader { src, at: 0 }
-}
-
-/// The reader after a part: 0 the two numbers, 1 the uses, 2 the defines, 3 the components and resources.
-fn pass<'a>(r: Reader<'a>, part: usize) -> Reader<'a>
-    ensures { (result.src ≡ r.entry.src) × (result.at ≡ passed part r.entry.src.now r.entry.at) }
-{
-    let at = pass_at(r.src, r.at, part);
-    Reader { src: r.src, at }
-}
-
-/// The verdict of a reader that has passed all parts.
-fn ended<'a>(r: Reader<'a>) -> Verdict
-    ensures { result ≡ end_verdict r.entry.src.now r.entry.at }
-{
-    ended_at(r.src, r.at)
-}
-
-/// The cursor core of `pass`.
-fn pass_at(s: &[u8], at: usize, part: usize) -> usize
-    ensures { result ≡ passed part s.now at }
-{
-    match part_at(s, at, part) {
-        Place::At(next) => next,
-        Place::Refused => s.len() + 1,
+    if all_there(s, at, E::SIZE) {
+        E::read(s, at)
+    } else {
+        zeros
     }
 }
 
-fn part_at(s: &[u8], at: usize, part: usize) -> Place
-    ensures { result ≡ part_end part s.now at }
-{
-    if part == 0 {
-        return head_at(s, at);
-    }
-    if part == 1 {
-        return uses_at(s, at);
-    }
-    if part == 2 {
-        return defines_at(s, at);
-    }
-    rest_at(s, at)
-}
-
-/// The cursor core of `ended`.
-fn ended_at(s: &[u8], at: usize) -> Verdict
-    ensures { result ≡ end_verdict s.now at }
-{
-    let whole = (at == s.len()) & (6 <= at);
-    if whole {
-        return Verdict::Good(sections_of(s));
-    }
-    Verdict::Malformed
-}
-
-fn head_at(s: &[u8], at: usize) -> Place
-    ensures { result ≡ head_end s.now at }
+/// The cursor core of the reader: what stands at a place, if it is good.
+fn head_at(s: &[u8], at: usize) -> Option<(u16, u32)>
+    ensures { result ≡ head_found s.now at }
 {
     if !all_there(s, at, 6) {
-        return Place::Refused;
+        return None;
     }
-    let good = (0 < u16_from(s, at)) & (0 < u32_from(s, at + 2));
-    if good {
-        return Place::At(at + 6);
-    }
-    Place::Refused
+    let app = u16_from(s, at);
+    let signer = u32_from(s, at + 2);
+    (0 < app && 0 < signer).then_some((app, signer))
 }
 
-fn uses_at(s: &[u8], at: usize) -> Place
-    ensures { result ≡ uses_end s.now at }
+fn section_at<'a, E: Entry>(src: &'a [u8], at: usize, most: usize) -> Option<Entries<'a, E>>
+    ensures lists { IfSome result (λ x. x.src ≡ src.entry) }
+    ensures value { option_map (λ x. x.section) result
+        ≡ found E.SIZE most src.entry.now at (rising E.key E.good 0 (section E.entry E.SIZE src.entry.now at)) }
 {
-    match count_at(s, at, 1, 32) {
-        Count::Of(n) => {
-            if uses_rise(s, at + 1, n) {
-                Place::At(at + 1 + 1 * n)
-            } else {
-                Place::Refused
-            }
-        }
-        Count::Refused => Place::Refused,
-    }
+    let entries = Entries::counted(src, at, most)?;
+    entries.rise().then_some(entries)
 }
 
-fn defines_at(s: &[u8], at: usize) -> Place
-    ensures { result ≡ defines_end s.now at }
+fn resources_at<'a>(
+    src: &'a [u8],
+    at: usize,
+    components: &Entries<'a, Component>,
+) -> Option<Entries<'a, Resource>>
+    ensures lists { IfSome result (λ x. x.src ≡ src.entry) }
+    ensures value { option_map (λ x. x.section) result ≡ found 8 32 src.entry.now at
+        (resources_rise (listed component_at 8 components.now.src.now components.now.section) 0
+        (section resource_at 8 src.entry.now at)) }
 {
-    match count_at(s, at, 3, 16) {
-        Count::Of(n) => {
-            if defines_rise(s, at + 1, n) {
-                Place::At(at + 1 + 3 * n)
-            } else {
-                Place::Refused
-            }
-        }
-        Count::Refused => Place::Refused,
-    }
-}
-
-fn rest_at(s: &[u8], at: usize) -> Place
-    ensures { result ≡ rest_end s.now at }
-{
-    match components_at(s, at) {
-        Place::At(next) => resources_at(s, at, next),
-        Place::Refused => Place::Refused,
-    }
-}
-
-fn components_at(s: &[u8], at: usize) -> Place
-    ensures { result ≡ components_end s.now at }
-{
-    match count_at(s, at, 8, 16) {
-        Count::Of(n) => {
-            if components_rise(s, at + 1, n) {
-                Place::At(at + 1 + 8 * n)
-            } else {
-                Place::Refused
-            }
-        }
-        Count::Refused => Place::Refused,
-    }
-}
-
-fn resources_at(s: &[u8], components: usize, at: usize) -> Place
-    requires { after 8 s.now components ≤ length s.now }
-    ensures { result ≡ resources_end s.now components at }
-{
-    match count_at(s, at, 8, 32) {
-        Count::Of(n) => {
-            if resources_rise(s, components + 1, wide(s[components]), at + 1, n) {
-                Place::At(at + 1 + 8 * n)
-            } else {
-                Place::Refused
-            }
-        }
-        Count::Refused => Place::Refused,
-    }
-}
-
-fn count_at(s: &[u8], at: usize, size: usize, most: usize) -> Count
-    requires { size ≤ 8 }
-    ensures { result ≡ count_of size most s.now at }
-{
-    if s.len() <= at {
-        return Count::Refused;
-    }
-    let n = wide(s[at]);
-    if most < n {
-        return Count::Refused;
-    }
-    let room = s.len() - (at + 1);
-    if room < size * n {
-        return Count::Refused;
-    }
-    Count::Of(n)
-}
-
-/// The loops over a section's entries: `count` of them, from the place `from` on.
-fn uses_rise(s: &[u8], from: usize, count: usize) -> bool
-    requires { from + 1 * count ≤ length s.now }
-    ensures { result ≡ uses_rise 0 (entries (u8_at s.now) 1 from count) }
-{
-    let mut i = from;
-    let mut left = count;
-    let mut low: u8 = 0;
-    while 0 < left {
-        let p = s[i];
-        let ok = (low < p) & (p <= 63);
-        if !ok {
-            return false;
-        }
-        low = p;
-        i += 1;
-        left -= 1;
-    }
-    true
-}
-
-fn defines_rise(s: &[u8], from: usize, count: usize) -> bool
-    requires { from + 3 * count ≤ length s.now }
-    ensures { result ≡ defines_rise 0 (entries (define_at s.now) 3 from count) }
-{
-    let mut i = from;
-    let mut left = count;
-    let mut low: u8 = 0;
-    while 0 < left {
-        let d = define_from(s, i);
-        let ok = (low < d.permission) & good_define(d);
-        if !ok {
-            return false;
-        }
-        low = d.permission;
-        i += 3;
-        left -= 1;
-    }
-    true
-}
-
-fn components_rise(s: &[u8], from: usize, count: usize) -> bool
-    requires { from + 8 * count ≤ length s.now }
-    ensures { result ≡ components_rise 0 (entries (component_at s.now) 8 from count) }
-{
-    let mut i = from;
-    let mut left = count;
-    let mut low: u16 = 0;
-    while 0 < left {
-        let c = component_from(s, i);
-        let ok = (low < c.number) & good_component(c);
-        if !ok {
-            return false;
-        }
-        low = c.number;
-        i += 8;
-        left -= 1;
-    }
-    true
-}
-
-fn resources_rise(s: &[u8], components: usize, n: usize, from: usize, count: usize) -> bool
-    requires { (components + 8 * n ≤ length s.now) × (from + 8 * count ≤ length s.now) }
-    ensures { result ≡ resources_rise (entries (component_at s.now) 8 components n) 0
-        (entries (resource_at s.now) 8 from count) }
-{
-    let mut i = from;
-    let mut left = count;
-    let mut low: u32 = 0;
-    let mut last: u16 = 0;
-    while 0 < left {
-        let r = resource_from(s, i);
-        let known = knows_provider(s, components, n, last, r.provider);
-        let key = resource_key(r);
-        let ok = (low < key) & ((0 < r.uri) & known);
-        if !ok {
-            return false;
-        }
-        low = key;
-        last = r.provider;
-        i += 8;
-        left -= 1;
-    }
-    true
-}
-
-/// A provider of the number `p` is among the components. That of the resource before, `last`, is, unless it is 0 for
-/// none: resources mostly have the same provider as the one before.
-fn knows_provider(s: &[u8], from: usize, count: usize, last: u16, p: u16) -> bool
-    requires within { from + 8 * count ≤ length s.now }
-    requires last_known { 0 < last → any (is_provider_of last) (entries (component_at s.now) 8 from count) ≡ true }
-    ensures { result ≡ any (is_provider_of p) (entries (component_at s.now) 8 from count) }
-{
-    let again = (p == last) & (0 < last);
-    if again {
-        return true;
-    }
-    has_provider(s, from, count, p)
-}
-
-fn has_provider(s: &[u8], from: usize, count: usize, p: u16) -> bool
-    requires { from + 8 * count ≤ length s.now }
-    ensures { result ≡ any (is_provider_of p) (entries (component_at s.now) 8 from count) }
-{
-    let mut i = from;
-    let mut left = count;
-    while 0 < left {
-        let c = component_from(s, i);
-        if is_provider_of(c, p) {
-            return true;
-        }
-        i += 8;
-        left -= 1;
-    }
-    false
+    let entries = Entries::counted(src, at, 32)?;
+    entries.rise_among(components).then_some(entries)
 }
 
 /// The tests of one entry, as the valid state has them too; and the key by which resources rise.
 pub fn good_define(d: Define) -> bool
     ensures { result ≡ good_define d }
 {
-    (16 <= d.permission)
-        & (d.permission <= 63)
-        & (d.level <= 3)
-        & (d.group <= 15)
-        & ((d.level == 1) | (d.group == 0))
+    16 <= d.permission
+        && d.permission <= 63
+        && d.level <= 3
+        && d.group <= 15
+        && (d.level == 1 || d.group == 0)
 }
 
 pub fn good_component(c: Component) -> bool
     ensures { result ≡ good_component c }
 {
-    let provider = c.kind == 4;
-    let as_provider = provider & (c.start == 0);
-    let as_other = (!provider) & ((c.shares == 0) & ((c.read == 0) & (c.write == 0)));
-    (1 <= c.kind)
-        & (c.kind <= 4)
-        & (c.exported <= 1)
-        & (c.shares <= 1)
-        & (c.start <= 63)
-        & (c.read <= 63)
-        & (c.write <= 63)
-        & (as_provider | as_other)
+    let rest = if c.kind == 4 {
+        c.start == 0
+    } else {
+        c.shares == 0 && c.read == 0 && c.write == 0
+    };
+    1 <= c.kind
+        && c.kind <= 4
+        && c.exported <= 1
+        && c.shares <= 1
+        && c.start <= 63
+        && c.read <= 63
+        && c.write <= 63
+        && rest
 }
 
 fn is_provider_of(c: Component, p: u16) -> bool
     ensures { result ≡ is_provider_of p c }
 {
-    (c.number == p) & (c.kind == 4)
+    c.number == p && c.kind == 4
 }
 
 pub fn resource_key(r: Resource) -> u32
     ensures { result ≡ resource_key r }
 {
-    wide32(r.provider) * 65536 + wide32(r.uri)
-}
-
-fn sections_of(s: &[u8]) -> Sections
-    requires { 6 ≤ length s.now }
-    ensures { result ≡ sections_of s.now }
-{
-    let app = u16_from(s, 0);
-    let signer = u32_from(s, 2);
-    let defines = after_section(s, 6, 1);
-    let components = after_section(s, defines, 3);
-    let resources = after_section(s, components, 8);
-    Sections {
-        app,
-        signer,
-        uses: section_of(s, 6),
-        defines: section_of(s, defines),
-        components: section_of(s, components),
-        resources: section_of(s, resources),
-    }
-}
-
-fn section_of(s: &[u8], at: usize) -> Section
-    requires { at ≤ 8192 }
-    ensures { result ≡ section_of s.now at }
-{
-    Section {
-        first: at + 1,
-        count: byte_at(s, at),
-    }
-}
-
-/// The place after a section, which at most 255 entries of at most 8 bytes make 2,041 bytes long.
-fn after_section(s: &[u8], at: usize, size: usize) -> usize
-    requires { (at ≤ 4096) × (size ≤ 8) }
-    ensures { (result ≡ after size s.now at) × (result ≤ at + 2041) }
-{
-    at + 1 + size * wide(byte_at(s, at))
+    u32::from(r.provider) * 65536 + u32::from(r.uri)
 }
 
 /// There are `size` bytes from the place `at` on.
 fn all_there(s: &[u8], at: usize, size: usize) -> bool
     ensures { result ≡ leb (at + size) (length s.now) }
 {
-    if s.len() < size {
-        return false;
-    }
-    at <= s.len() - size
+    size <= s.len() && at <= s.len() - size
 }
 
-/// The numbers and entries from a place on, where all their bytes are there.
+/// The numbers from a place on, where all their bytes are there.
 fn u16_from(s: &[u8], at: usize) -> u16
     requires { at + 2 ≤ length s.now }
     ensures { result ≡ u16_at s.now at }
 {
-    wide16(s[at]) + 256 * wide16(s[at + 1])
+    u16::from_le_bytes([s[at], s[at + 1]])
 }
 
 fn u32_from(s: &[u8], at: usize) -> u32
     requires { at + 4 ≤ length s.now }
     ensures { result ≡ u32_at s.now at }
 {
-    wide32(u16_from(s, at)) + 65536 * wide32(u16_from(s, at + 2))
-}
-
-fn define_from(s: &[u8], at: usize) -> Define
-    requires { at + 3 ≤ length s.now }
-    ensures { result ≡ define_at s.now at }
-{
-    Define {
-        permission: s[at],
-        level: s[at + 1],
-        group: s[at + 2],
-    }
-}
-
-fn component_from(s: &[u8], at: usize) -> Component
-    requires { at + 8 ≤ length s.now }
-    ensures { result ≡ component_at s.now at }
-{
-    Component {
-        number: u16_from(s, at),
-        kind: s[at + 2],
-        exported: s[at + 3],
-        shares: s[at + 4],
-        start: s[at + 5],
-        read: s[at + 6],
-        write: s[at + 7],
-    }
-}
-
-fn resource_from(s: &[u8], at: usize) -> Resource
-    requires { at + 8 ≤ length s.now }
-    ensures { result ≡ resource_at s.now at }
-{
-    Resource {
-        provider: u16_from(s, at),
-        uri: u16_from(s, at + 2),
-        value: u32_from(s, at + 4),
-    }
-}
-
-/// Widened, so that sums fit.
-fn wide16(x: u8) -> u16
-    ensures { result ≡ x }
-{
-    x as u16
-}
-
-fn wide32(x: u16) -> u32
-    ensures { result ≡ x }
-{
-    x as u32
-}
-
-fn wide(x: u8) -> usize
-    ensures { result ≡ x }
-{
-    x as usize
+    u32::from_le_bytes([s[at], s[at + 1], s[at + 2], s[at + 3]])
 }

@@ -10,7 +10,7 @@ use Rattle.rules.specs.ListsLaws.{length-map, mem-all}
 use Rattle.rules.specs.Limits.{large}
 use Rattle.rules.specs.Action.{on_grants}
 use Rattle.state.specs.declared.App.{App}
-use Rattle.state.specs.declared.Apps.{Apps}
+use Rattle.state.specs.Listed.{Apps}
 use Rattle.state.specs.Tables.{Row, State, app_number, defined_by}
 use Rattle.state.specs.Effects.{grants_at, groups_at, keep_grants, added, taken, apps_after, next}
 use Rattle.state.specs.Stored.{zero_app, padded, app_from}
@@ -24,7 +24,11 @@ use Rattle.tables.specs.HeldLaws.{grant-taken}
 use Rattle.tables.specs.HeldLaws.{group-added, group-taken}
 use Rattle.tables.specs.Changing.{change_app, drop_grants}
 use Rattle.monitor.specs.Made.{asking}
-use Rattle.monitor.specs.TableLaws.{mem-map}
+
+-- a member is one of the mapped list, too
+pub mem-map : {A B : Type 0} (g : A → B) {x : A} {l : List A} → Memᴰ x l → Memᴰ (g x) (map g l)
+mem-map g (Memᴰ.head e) = Memᴰ.head (ap g e)
+mem-map g (Memᴰ.tail m) = Memᴰ.tail (mem-map g m)
 
 -- ---- the table of rows
 abbrev pub apps_of_rows : List Row → Apps

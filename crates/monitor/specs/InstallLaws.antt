@@ -1,10 +1,11 @@
 -- A loop over a section puts its entries to a table in turn, and the tables that an install makes are those of the next
 -- state.
-use Prim.Native.Nat.{ℕ, zero, suc, ◌+◌, ◌-◌, ◌≤◌, ◌<◌}
+use Prim.Native.Nat.{ℕ, zero, suc, ◌+◌, ◌-◌, ◌*◌, ◌≤◌, ◌<◌}
+use Rattle.std.proofs.Math.Nat.{mul-suc}
 use Rattle.std.specs.Prelude.{◌≡◌, Bool, true, false, cond, eqb}
 use Rattle.std.proofs.Math.Path.{refl, ap}
 use Rattle.std.proofs.Common.{◌∙◌, le-leb, leb-true, eqb-true}
-use Rattle.std.proofs.lemmas.Bool.{false≢true, lt-leb}
+use Rattle.std.proofs.lemmas.Bool.{false≢true}
 use mathlib.Core.List.{List, [], ◌∷◌, ◌++◌, map, append_assoc, append-nil}
 use native.Mathlib.Omega.{arith}
 use Rattle.std.proofs.Math.ListN.{length, length-append}
@@ -14,7 +15,7 @@ use Rattle.manifest.specs.Good.{good, good_bytes, at_most, uses_rise}
 use Rattle.manifest.specs.GoodLaws.{and_parts, good-parts}
 use Rattle.manifest.specs.Verdict.{entry_at, sections_of, verdict_of}
 use Rattle.manifest.specs.declared.Sections.{Sections}
-use Rattle.manifest.specs.declared.Verdict.TheVariants.{Good, Malformed}
+use Rattle.std.specs.Prelude.{Some, None}
 use Rattle.rules.specs.ListsLaws.{both, length-map, map-append}
 use Rattle.rules.specs.Limits.{large}
 use Rattle.rules.specs.Action.{on_apps, install}
@@ -23,13 +24,12 @@ use Rattle.state.specs.Tables.{Row, State}
 use Rattle.state.specs.Effects.{apps_after, definitions_after, parts_after, resources_after, instances_after}
 use Rattle.state.specs.Effects.{loans_after}
 use Rattle.state.specs.Effects.{next}
-use Rattle.state.specs.Stored.{app_from, device_of}
+use Rattle.state.specs.Stored.{app_from, device_of, zero_app, zero_definition, zero_part, zero_resource}
 use Rattle.state.specs.Capacity.{Fits}
 use Rattle.tables.specs.Held.{definitions_table, parts_table, resources_table}
-use Rattle.tables.specs.HeldLaws.{app-more, definition-more, part-more, resource-more}
-use Rattle.tables.specs.Changing.{append_app, append_definition, append_part, append_resource}
+use Rattle.tables.specs.HeldLaws.{entry-more}
+use Rattle.state.specs.Listed.{appended}
 use Rattle.monitor.specs.Installing.{append_all, new_row, add_use, Within, app_made, install_made}
-use Rattle.monitor.specs.TableLaws.{appended, one_more}
 use Rattle.monitor.specs.GrantLaws.{apps_of_rows, rows-by}
 
 -- ---- the loop over a section
@@ -49,6 +49,26 @@ module _ {T A : Type 0} (append : T → A → T) (f : ℕ → A) (size : ℕ) wh
 pub entry-there : {A : Type 0} (z : A) (f : List ℕ → ℕ → A) (size : ℕ) (s : List ℕ) (a : ℕ) → a + size ≤ length s
     → entry_at z f size s a ≡ f s a
 entry-there z f size s a h = rw (le-leb (a + size) (length s) h)
+
+-- each entry put by its place, where the section is all there
+module _ {T A : Type 0} (append : T → A → T) (f g : ℕ → A) (size m : ℕ)
+    (there : (a : ℕ) → a + size ≤ m → g a ≡ f a) where
+  pub entries-placed : (t : T) (a n : ℕ) → a + size * n ≤ m
+      → append_all (λ u b. append u (g b)) t (entries (λ b. b) size a n) ≡ append_all append t (entries f size a n)
+  unfolding append_all
+  entries-placed t a zero h = refl
+  entries-placed t a (suc n) h =
+      let k = mul-suc size n in
+      ap (λ (x : A). append_all (λ u b. append u (g b)) (append t x) (entries (λ b. b) size (a + size) n))
+      (there a (omega arith))
+      ∙ entries-placed (append t (f a)) (a + size) n (omega arith)
+
+pub entries-there : {T A : Type 0} (append : T → A → T) (z : A) (f : List ℕ → ℕ → A) (size : ℕ) (s : List ℕ) (t : T)
+    (a n : ℕ) → a + size * n ≤ length s
+    → append_all (λ u b. append u (entry_at z f size s b)) t (entries (λ b. b) size a n)
+    ≡ append_all append t (entries (f s) size a n)
+entries-there append z f size s =
+    entries-placed append (f s) (entry_at z f size s) size (length s) (entry-there z f size s)
 
 -- ---- entries put to the table of a list
 module _ {T A B : Type 0} (n : ℕ) (table : List B → T) (mk : A → B) (append : T → A → T)
@@ -72,7 +92,7 @@ module _ (number signer : ℕ) (image : Bool) where
   use-added : (l : List ℕ) (p : ℕ) → length l < 32
       → add_use (app_from (new_row number signer image l)) p ≡ app_from (new_row number signer image (l ++ (p ∷ [])))
   unfolding add_use
-  use-added l p h = rw (lt-leb 32 (length l) h, appended 0 32 l p h, one_more l p)
+  use-added l p h = rw (entry-more 0 32 l p h)
 
   uses-added : (us : List ℕ) → length us ≤ 32
       → append_all add_use (app_from (new_row number signer image [])) us ≡ app_from (new_row number signer image us)
@@ -82,11 +102,11 @@ module _ (number signer : ℕ) (image : Bool) where
 
 -- ---- one row more
 row-added : (rs : List Row) (r : Row) → length rs < 16
-    → append_app (apps_of_rows rs) (app_from r) ≡ apps_of_rows (rs ++ (r ∷ []))
+    → appended 16 (apps_of_rows rs) (app_from r) ≡ apps_of_rows (rs ++ (r ∷ []))
 row-added rs r h =
     let n = length-map app_from rs in
-    rows-by (λ t. append_app t (app_from r)) rs (rs ++ (r ∷ []))
-    (app-more (map app_from rs) (app_from r) (omega arith) ∙ rw (map-append app_from rs (r ∷ [])))
+    rows-by (λ t. appended 16 t (app_from r)) rs (rs ++ (r ∷ []))
+    (entry-more zero_app 16 (map app_from rs) (app_from r) (omega arith) ∙ rw (map-append app_from rs (r ∷ [])))
 
 -- ---- a good manifest
 pub good-ends : (z : List ℕ) → good (manifest_of z) ≡ true → eqb (end_place z) (length z) ≡ true
@@ -102,15 +122,15 @@ module _ (z : List ℕ) (h : good (manifest_of z) ≡ true) where
   unfolding manifest_of
   good-laid = rw (good-ends z h)
 
-  verdict-good : verdict_of z ≡ Good (sections_of z)
+  verdict-good : verdict_of z ≡ Some (sections_of z)
   verdict-good =
       let e : good_bytes z ≡ true = both (good-ends z h) (rw good-laid at h) in
-      ap (λ (t : Bool). cond t (Good (sections_of z)) Malformed) e
+      ap (λ (t : Bool). cond t (Some (sections_of z)) None) e
 
-  pub sections-found : (m : Sections) → verdict_of z ≡ Good m → m ≡ sections_of z
+  pub sections-found : (m : Sections) → verdict_of z ≡ Some m → m ≡ sections_of z
   sections-found m e = let v = verdict-good in cc
 
-  pub never-malformed : verdict_of z ≡ Malformed → ⊥
+  pub never-malformed : verdict_of z ≡ None → ⊥
   never-malformed e =
       let v = verdict-good in
       let f : ◌≡◌ {A = ℕ} 0 1 = cc in
@@ -142,41 +162,41 @@ module _ (s : State) (image : Bool) (z : List ℕ) (v : ℕ) where
       row : Row
       row = new_row m.app m.signer image m.uses
 
-      apps : append_app (apps_of_rows s.rows) (app_made z image (sections_of z) (device_of s))
+      apps : appended 16 (apps_of_rows s.rows) (app_made z image (sections_of z) (device_of s))
           ≡ apps_of_rows (s.rows ++ (row ∷ []))
       apps =
           let f : length (s.rows ++ (row ∷ [])) ≤ 16 = unfold next apps_after in fits.apps in
           let l = length-append s.rows (row ∷ []) in
-          ap (append_app (apps_of_rows s.rows)) (uses-added m.app m.signer image m.uses few)
+          ap (appended 16 (apps_of_rows s.rows)) (uses-added m.app m.signer image m.uses few)
           ∙ row-added s.rows row (omega arith)
 
       definitions :
-          append_all (λ t x. append_definition t (definition_of m x)) (definitions_table s.definitions) m.defines
+          append_all (λ t x. appended 256 t (definition_of m x)) (definitions_table s.definitions) m.defines
           ≡ definitions_table (s.definitions ++ map (definition_of m) m.defines)
       definitions =
           let f : length (s.definitions ++ map (definition_of m) m.defines) ≤ 256 =
           unfold next definitions_after in fits.definitions in
           let l = length-append s.definitions (map (definition_of m) m.defines) in
           let k = length-map (definition_of m) m.defines in
-          all-appended 256 definitions_table (definition_of m) (λ t x. append_definition t (definition_of m x))
-          (λ l x. definition-more l (definition_of m x)) s.definitions m.defines (omega arith)
+          all-appended 256 definitions_table (definition_of m) (λ t x. appended 256 t (definition_of m x))
+          (λ l x. entry-more zero_definition 256 l (definition_of m x)) s.definitions m.defines (omega arith)
 
-      parts : append_all (λ t x. append_part t (part_of m x)) (parts_table s.parts) m.components
+      parts : append_all (λ t x. appended 64 t (part_of m x)) (parts_table s.parts) m.components
           ≡ parts_table (s.parts ++ map (part_of m) m.components)
       parts =
           let f : length (s.parts ++ map (part_of m) m.components) ≤ 64 =
           unfold next parts_after in fits.components in
           let l = length-append s.parts (map (part_of m) m.components) in
           let k = length-map (part_of m) m.components in
-          all-appended 64 parts_table (part_of m) (λ t x. append_part t (part_of m x))
-          (λ l x. part-more l (part_of m x)) s.parts m.components (omega arith)
+          all-appended 64 parts_table (part_of m) (λ t x. appended 64 t (part_of m x))
+          (λ l x. entry-more zero_part 64 l (part_of m x)) s.parts m.components (omega arith)
 
-      resources : append_all append_resource (resources_table s.resources) m.resources
+      resources : append_all (appended 128) (resources_table s.resources) m.resources
           ≡ resources_table (s.resources ++ m.resources)
       resources =
           let f : length (s.resources ++ m.resources) ≤ 128 = unfold next resources_after in fits.resources in
           let l = length-append s.resources m.resources in
-          all-appended 128 resources_table (λ x. x) append_resource resource-more s.resources m.resources
+          all-appended 128 resources_table (λ x. x) (appended 128) (entry-more zero_resource 128) s.resources m.resources
           (omega arith)
           ∙ ap (λ (r : List Resource). resources_table (s.resources ++ r)) (map-itself m.resources)
 

@@ -1,13 +1,11 @@
 pub mod Stepped
 pub mod Made
 pub mod Installing
-pub mod TableLaws
 pub mod GrantLaws
 pub mod MadeLaws
 pub mod InstallLaws
 pub mod RangeLaws
 pub mod UnaskedLaws
 pub mod StepLaws
-pub mod Lending
 pub mod LendingLaws
 pub mod Unique

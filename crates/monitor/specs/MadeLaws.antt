@@ -4,7 +4,7 @@ use Rattle.std.proofs.Math.Path.{refl, ap}
 use Rattle.std.proofs.Common.{arith, length-append}
 use Rattle.rules.specs.declared.Instance.{Instance}
 use Rattle.rules.specs.declared.Ground.{Ground}
-use Rattle.rules.specs.declared.Answer.TheVariants.{Done}
+use Rattle.rules.specs.Answer.{done}
 use Rattle.rules.specs.Limits.{large}
 use Rattle.rules.specs.Action.{Action, on_apps, uninstall, on_grants, on_runs, start, stop, write, on_loans, LoanAction}
 use Rattle.state.specs.Tables.{State}
@@ -25,7 +25,7 @@ use Rattle.monitor.specs.Made.{start_made, stop_made, uninstall_made}
 use Rattle.monitor.specs.GrantLaws.{change-made, drop-made}
 
 -- the next state fits its arrays
-pub next_fits : (s : State) (x : Action) (g : Ground) (v : ℕ) → valid large s ≡ true → answer_to s x ≡ Done g v
+pub next_fits : (s : State) (x : Action) (g : Ground) (v : ℕ) → valid large s ≡ true → answer_to s x ≡ done g v
     → Fits large (next s x v)
 next_fits s x g v h e = valid-fits large (next s x v) (keeps large s x g v h e)
 

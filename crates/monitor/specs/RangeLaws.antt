@@ -14,7 +14,7 @@ use Rattle.rules.specs.declared.Ground.{Ground}
 use Rattle.rules.specs.declared.Known.{Known}
 use Rattle.rules.specs.declared.Instance.{Instance}
 use Rattle.rules.specs.declared.Loan.{Loan}
-use Rattle.rules.specs.declared.Answer.TheVariants.{Done}
+use Rattle.rules.specs.Answer.{done}
 use Rattle.rules.specs.declared.Reason.TheVariants.{NothingToTakeBack, Undefined}
 use Rattle.rules.specs.Lists.{any, all, mem, find, is_some, test, bind, map_option}
 use Rattle.rules.specs.ListsLaws.{and_left, and_right, both, all-mem, mem-all, all_any, all_found, all_map}
@@ -79,7 +79,7 @@ module _ (s : State) (ok : Ok large s) where
 
 -- ---- grants and groups
 pub member-low : (s : State) (c : Change) (b m : ℕ) (g : Ground) (v : ℕ) → valid large s ≡ true
-    → answer_to s (on_grants (asking c b m)) ≡ Done g v → m ≤ 63
+    → answer_to s (on_grants (asking c b m)) ≡ done g v → m ≤ 63
 member-low s AddGrant b m g v h e =
     let t = grant-grantable large (view_of s) g v b m e in
     grantable-low s t.0 m (found-low s (valid→ok large s h) b t.0 (unfold view_of in t.1)) t.2
@@ -99,7 +99,7 @@ member-low s TakeGroup b m g v h e =
     group-low m e = let l = leb-true m 15 (and_right (leb 1 m) _ (unfold is_group in e)) in omega arith
 
 -- ---- a new instance's number
-pub number-low : (s : State) (c n : ℕ) (g : Ground) (v : ℕ) → answer_to s (on_runs (start c n)) ≡ Done g v → v ≤ 64
+pub number-low : (s : State) (c n : ℕ) (g : Ground) (v : ℕ) → answer_to s (on_runs (start c n)) ≡ done g v → v ≤ 64
 number-low s c n g v e = leb-true v 64 (and_right (leb 1 v) _ (start-range large (view_of s) g v c n e))
 
 -- ---- a receiver: an instance's number is at most 64, and an app's is one of the table's
@@ -130,7 +130,7 @@ module _ (s : State) (ok : Ok large s) (narrow : all (λ a. leb a.number 65535) 
           omega arith
 
   pub receiver-low : (o p n u : ℕ) (q : Receiver) (g : Ground) (v : ℕ)
-      → answer_to s (on_loans (lend o p n u q)) ≡ Done g v → receiver_number q ≤ 65535
+      → answer_to s (on_loans (lend o p n u q)) ≡ done g v → receiver_number q ≤ 65535
   receiver-low o p n u q g v e = go q (lend-facts large (view_of s) o p n u q g v e).receiver
     where
       go : (q : Receiver) → receiver_there (view_of s) q ≡ true → receiver_number q ≤ 65535

@@ -1,6 +1,6 @@
 -- A step from what the code has: a refusal and a question leave all as it was, and a done action leaves the tables of
 -- the next state.
-use Rattle.std.specs.Prelude.{ℕ, ◌≤◌, ◌≡◌, Bool, true, false, cond, eqb, leb, ltb}
+use Rattle.std.specs.Prelude.{ℕ, ◌≤◌, ◌≡◌, Bool, true, false, cond, eqb, leb, ltb, Ok, Err}
 use Rattle.std.proofs.Math.Path.{refl, ap}
 use Rattle.std.proofs.Common.{sym, ◌∙◌, arith, eqb-true, le-leb, lt-ltb}
 use Rattle.std.proofs.lemmas.Bool.{false≢true}
@@ -14,8 +14,7 @@ use Rattle.rules.specs.declared.Ground.{Ground}
 use Rattle.rules.specs.declared.Reason.{Reason}
 use Rattle.rules.specs.declared.Reason.TheVariants.{StateNotValid}
 use Rattle.rules.specs.Record.{action_of}
-use Rattle.rules.specs.declared.Answer.{Answer}
-use Rattle.rules.specs.declared.Answer.TheVariants.{Done, Refused}
+use Rattle.rules.specs.Answer.{Answer, done, refused}
 use Rattle.rules.specs.Lists.{any, all}
 use Rattle.rules.specs.ListsLaws.{and_left, and_right}
 use Rattle.rules.specs.Limits.{large}
@@ -36,7 +35,7 @@ use Rattle.state.specs.Valid.{valid}
 use Rattle.state.specs.Ok.{valid→ok}
 use Rattle.tables.specs.declared.Change.{Change}
 use Rattle.tables.specs.Held.{instances_in}
-use Rattle.loans.specs.declared.Loans.{Loans}
+use Rattle.loans.specs.Held.{Loans}
 use Rattle.loans.specs.Held.{loans_table, appended, lend_in}
 use Rattle.monitor.specs.Stepped.{answer_to, stepped_to, stepped_by, stepped}
 use Rattle.monitor.specs.Made.{asking, with_lent, grant_made, write_made, start_made, stop_made, uninstall_made}
@@ -79,10 +78,10 @@ module _ (d : Device) (lent : List Loan) where
   stays x a k e same = rw (e, same, k.device, k.loans)
 
   pub refused-stays : (x : Action) (a : Answer) (n : Reason) → Kept d lent → a ≡ answer_to (model_of d lent) x
-      → a ≡ Refused n
+      → a ≡ refused n
       → record { device = d; lent = lent; answer = a } ≡ stepped_by d lent x
   unfolding after
-  refused-stays x a n k e r = rw r (stays x (Refused n) k (sym e ∙ r) refl)
+  refused-stays x a n k e r = rw r (stays x (refused n) k (sym e ∙ r) refl)
 
   pub query-stays : (z : Query) (a : Answer) → Kept d lent → a ≡ answer_to (model_of d lent) (query z)
       → record { device = d; lent = lent; answer = a } ≡ stepped_by d lent (query z)
@@ -90,8 +89,8 @@ module _ (d : Device) (lent : List Loan) where
   query-stays z a k e = stays (query z) a k (sym e) (same a)
     where
       same : (a : Answer) → after (model_of d lent) (query z) a ≡ model_of d lent
-      same (Refused n) = refl
-      same (Done g v) = refl
+      same (Err n) = refl
+      same (Ok d) = refl
 
   -- a receiver of a wider number than a table's is not there
   pub lend-stays : (o p n u : ℕ) (q : Receiver) (a : Answer) → Kept d lent
@@ -102,23 +101,23 @@ module _ (d : Device) (lent : List Loan) where
     where
       go : (r : Answer) → a ≡ r
           → record { device = d; lent = lent; answer = a } ≡ stepped_by d lent (on_loans (lend o p n u q))
-      go (Refused w) e = refused-stays (on_loans (lend o p n u q)) a w k f e
-      go (Done g v) e =
+      go (Err w) e = refused-stays (on_loans (lend o p n u q)) a w k f e
+      go (Ok z) e =
           let low = receiver-low (model_of d lent) (valid→ok large (model_of d lent) k.valid)
           (apps-narrow d lent narrow)
-          o p n u q g v (sym f ∙ e) in
+          o p n u q z.ground z.value (sym f ∙ e) in
           absurd (false≢true (sym wide ∙ le-leb (receiver_number q) 65535 low))
 
   -- the tables of the next state
   done-steps : (x : Action) (a : Answer) (g : Ground) (v : ℕ) (e : Device) (l : List Loan)
-      → a ≡ answer_to (model_of d lent) x → a ≡ Done g v
+      → a ≡ answer_to (model_of d lent) x → a ≡ done g v
       → e ≡ device_of (next (model_of d lent) x v) → l ≡ lent_of 128 (next (model_of d lent) x v)
       → record { device = e; lent = l; answer = a } ≡ stepped_by d lent x
   unfolding stepped_by stepped_to after
   done-steps x a g v e l f r p q = rw (sym f ∙ r, r, p, q)
 
 -- ---- done actions, each with what the code makes of the tables
-module _ (d : Device) (lent : List Loan) (k : Kept d lent) (a : Answer) (g : Ground) (v : ℕ) (r : a ≡ Done g v) where
+module _ (d : Device) (lent : List Loan) (k : Kept d lent) (a : Answer) (g : Ground) (v : ℕ) (r : a ≡ done g v) where
   fitting : (x : Action) → a ≡ answer_to (model_of d lent) x → Fits large (next (model_of d lent) x v)
   fitting x f = next_fits (model_of d lent) x g v k.valid (sym f ∙ r)
 
@@ -224,6 +223,6 @@ module _ (d : Device) (lent : List Loan) (action manifest : List ℕ) where
   stepped-valid e = rw e
 
   pub stepped-not : valid_stored d lent ≡ false
-      → record { device = d; lent = lent; answer = Refused StateNotValid } ≡ stepped d lent action manifest
+      → record { device = d; lent = lent; answer = refused StateNotValid } ≡ stepped d lent action manifest
   unfolding stepped step_device step_lent step_answer
   stepped-not e = rw e

@@ -2,10 +2,9 @@
 -- left. Document 01, "Conditions and effects".
 use Rattle.std.specs.Prelude.{ℕ, List}
 use Rattle.rules.specs.declared.Loan.{Loan}
-use Rattle.rules.specs.declared.Answer.{Answer}
 use Rattle.rules.specs.Limits.{large}
 use Rattle.rules.specs.Action.{Action}
-use Rattle.rules.specs.Answer.{answer}
+use Rattle.rules.specs.Answer.{Answer, answer}
 use Rattle.state.specs.declared.Device.{Device}
 use Rattle.state.specs.Tables.{State, view_of}
 use Rattle.state.specs.Effects.{after}

@@ -16,6 +16,7 @@ pub fn read_full<R: Read>(input: &mut R, buf: &mut [u8]) -> io::Result<usize>
     ensures end { IfOk result (λ n. n < length buf.new → IsAtEnd (R.remaining input.new)) }
 {
     let mut done = 0;
+    // No range or iterator is plainer: a turn adds as many as the read gave.
     while done < buf.len() {
         let got = input.read(&mut buf[done..])?;
         if got == 0 {

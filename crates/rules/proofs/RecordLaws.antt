@@ -8,7 +8,6 @@ use Rattle.std.proofs.Math.Option.{Option, none, some}
 use borrow.Author.Tests.{eqb-true, not-true}
 use Rattle.manifest.specs.Layout.{u8_at}
 use Rattle.rules.specs.declared.Reason.TheVariants.{MalformedAction}
-use Rattle.rules.specs.declared.Answer.TheVariants.{Refused}
 use Rattle.rules.specs.Lists.{any, all, find, upto}
 use Rattle.rules.specs.ListsLaws.{and_left, or-false, eqb-sym, any-cong, flat, clashing, find-holds, none_any}
 use Rattle.rules.specs.ListsLaws.{all_found, mem-any}
@@ -20,7 +19,7 @@ use Rattle.rules.specs.Action.{write, on_loans, query}
 use Rattle.rules.specs.Record.{Fields, Form, fields_of, forms, fits, fitting, form_of, asked, action_of}
 use Rattle.rules.specs.View.{View}
 use Rattle.rules.specs.Refusals.{Refusal, refusals}
-use Rattle.rules.specs.Answer.{decide, answer, number_of}
+use Rattle.rules.specs.Answer.{refused, decide, answer, number_of}
 use Rattle.rules.proofs.OrderLaws.{ordered}
 use Rattle.rules.specs.WellFormed.{is_code, fields_fit, well_formed}
 
@@ -56,7 +55,7 @@ spared-applies L v (query (read p n u)) = refl
 spared-applies L v (query (ask b p)) = refl
 spared-applies L v (query malformed) = refl
 
-not_spared : (L : Limits) (v : View) (x : Action) → spared x ≡ false → answer L v x ≡ Refused MalformedAction
+not_spared : (L : Limits) (v : View) (x : Action) → spared x ≡ false → answer L v x ≡ refused MalformedAction
 unfolding spared answer refusals decide
 not_spared L v (on_apps z) s = absurd (true≢false s)
 not_spared L v (on_grants z) s = absurd (true≢false s)
@@ -107,7 +106,7 @@ rows-ask =
 
 -- the codes are 1 to 14
 coded : all (λ t. is_code t.code) forms ≡ true
-unfolding forms is_code all
+unfolding forms is_code
 coded = refl
 
 all_coded : (n : ℕ) → is_code n ≡ true → any (λ t. eqb t.code n) forms ≡ true
@@ -150,10 +149,10 @@ well-spared s m = by_length (eqb (length s) 12)
 
 -- ---- refusal 2
 module _ (L : Limits) (v : View) (s m : List ℕ) where
-  pub malformed-refused : well_formed s ≡ false → answer L v (action_of s m) ≡ Refused MalformedAction
+  pub malformed-refused : well_formed s ≡ false → answer L v (action_of s m) ≡ refused MalformedAction
   malformed-refused e = not_spared L v (action_of s m) (well-spared s m ∙ e)
 
-  pub refused-2-exactly-if-malformed : (answer L v (action_of s m) ≡ Refused MalformedAction) ↔ (well_formed s ≡ false)
+  pub refused-2-exactly-if-malformed : (answer L v (action_of s m) ≡ refused MalformedAction) ↔ (well_formed s ≡ false)
   refused-2-exactly-if-malformed = (
     λ e. sym (well-spared s m) ∙ not-true (spared (action_of s m)) (sym (spared-applies L v (action_of s m))
         ∙ mem-any is_two ((ordered L v (action_of s m)).refused MalformedAction e).0 refl),

@@ -1,6 +1,6 @@
 -- The answer to an action, and the number, ground and value that the paper gives for each case of it.
 -- Document 01, "Numbers that come back": the table and the text under it.
-use Rattle.std.specs.Prelude.{ℕ, cond, List, [], ◌∷◌}
+use Rattle.std.specs.Prelude.{ℕ, cond, List, [], ◌∷◌, Result, Ok, Err}
 use Rattle.std.proofs.Math.Option.{Option, none, some}
 use Rattle.rules.specs.declared.Ground.{Ground}
 use Rattle.rules.specs.declared.Ground.TheVariants.{Nothing, Owner, Permission, LoanToInstance, LoanToApp}
@@ -9,8 +9,7 @@ use Rattle.rules.specs.declared.Reason.TheVariants.{StateNotValid, MalformedActi
 use Rattle.rules.specs.declared.Reason.TheVariants.{AlreadyThere, NoSuchApp, NoSuchComponent, NoSuchInstance}
 use Rattle.rules.specs.declared.Reason.TheVariants.{NoSuchResource, Undefined, CannotBeGranted, NotPermitted}
 use Rattle.rules.specs.declared.Reason.TheVariants.{NothingToTakeBack, InUse, PartOfTheImage, NoRoom}
-use Rattle.rules.specs.declared.Answer.{Answer}
-use Rattle.rules.specs.declared.Answer.TheVariants.{Done, Refused}
+use Rattle.rules.specs.declared.Done.{Done}
 use Rattle.rules.specs.Lists.{test, or_else}
 use Rattle.rules.specs.Limits.{Limits}
 use Rattle.rules.specs.Action.{reading, writing, bit, start, stop, read, ask, malformed, Action, on_apps, on_grants}
@@ -43,13 +42,23 @@ value_for L v (query (read p n u)) = or_else 0 (v.value p u)
 value_for L v (query (ask b p)) = bit (test (v.app b) (λ a. holds v a p))
 value_for L v (query malformed) = 0
 
--- the first refusal that applies, and else done
+-- what comes back: done, with a ground and a value, or refused, for a reason
+abbrev pub Answer : Type 0
+Answer = Result Done Reason
+
+abbrev pub done : Ground → ℕ → Answer
+done g v = Ok (record { ground = g; value = v })
+
+abbrev pub refused : Reason → Answer
+refused n = Err n
+
+-- the first refusal that applies, and else what is done
 unfoldable pub decide : List Refusal → Answer → Answer
-decide [] done = done
-decide (r ∷ rs) done = cond r.applies (Refused r.reason) (decide rs done)
+decide [] a = a
+decide (r ∷ rs) a = cond r.applies (refused r.reason) (decide rs a)
 
 unfoldable pub answer : Limits → View → Action → Answer
-answer L v x = decide (refusals L v x) (Done (ground_for v x) (value_for L v x))
+answer L v x = decide (refusals L v x) (done (ground_for v x) (value_for L v x))
 
 abbrev pub number_of : Reason → ℕ
 number_of StateNotValid = 1
@@ -82,5 +91,5 @@ pub record Line : Type 0 where
   pub value : Option ℕ
 
 unfoldable pub line_of : Answer → Line
-line_of (Done g v) = record { number = 0; ground = some (ground_number g); value = some v }
-line_of (Refused n) = record { number = number_of n; ground = none; value = none }
+line_of (Ok d) = record { number = 0; ground = some (ground_number d.ground); value = some d.value }
+line_of (Err n) = record { number = number_of n; ground = none; value = none }

@@ -1,5 +1,5 @@
--- What a done answer tells: none of the action's refusals applies, and the value is the one that the rules give.
-use Rattle.std.specs.Prelude.{ℕ, ◌≡◌, Bool, ◌&&◌, ◌||◌, List, [], ◌∷◌, eqb, leb, ltb}
+-- What a done answer tells: none of the action's refusals applies, and its ground and value are those of the rules.
+use Rattle.std.specs.Prelude.{ℕ, ◌≡◌, Bool, ◌&&◌, ◌||◌, List, [], ◌∷◌, eqb, leb, ltb, Ok, Err}
 use Rattle.std.proofs.Math.Path.{refl, ap}
 use Rattle.std.proofs.Common.{sym}
 use Rattle.std.proofs.Math.Bool.{true, false, not, cond}
@@ -19,8 +19,7 @@ use Rattle.rules.specs.declared.Reason.{Reason}
 use Rattle.rules.specs.declared.Reason.TheVariants.{MalformedAction, MalformedManifest, AlreadyThere, NoSuchApp}
 use Rattle.rules.specs.declared.Reason.TheVariants.{NoSuchComponent, NoSuchInstance, NoSuchResource, Undefined}
 use Rattle.rules.specs.declared.Reason.TheVariants.{CannotBeGranted, NotPermitted, InUse, NoRoom}
-use Rattle.rules.specs.declared.Answer.{Answer}
-use Rattle.rules.specs.declared.Answer.TheVariants.{Done, Refused}
+use Rattle.rules.specs.declared.Ground.TheVariants.{Nothing}
 use Rattle.rules.specs.Limits.{Limits}
 use Rattle.rules.specs.Action.{is_operations, Receiver, an_instance, an_app, install, uninstall, grant, grant_group}
 use Rattle.rules.specs.Action.{start, lend, withdraw, Action, on_apps, on_grants, on_runs, write, on_loans, query}
@@ -29,7 +28,7 @@ use Rattle.rules.specs.Permissions.{known}
 use Rattle.rules.specs.Grounds.{is_sharing, running_app, provider, startable}
 use Rattle.rules.specs.Refusals.{Refusal, clash, crowded, is_running, grantable, is_group, free_number}
 use Rattle.rules.specs.Refusals.{no_receiving_app, no_receiving_instance, lent_any, refusals}
-use Rattle.rules.specs.Answer.{decide, answer, value_for, number_of}
+use Rattle.rules.specs.Answer.{Answer, done, refused, decide, answer, ground_for, value_for, number_of}
 
 -- ---- every action
 -- the condition under which a list of refusals refuses for a reason
@@ -37,8 +36,8 @@ unfoldable pub condition : Reason → List Refusal → Bool
 condition n [] = false
 condition n (r ∷ rs) = cond (eqb (number_of r.reason) (number_of n)) r.applies (condition n rs)
 
-decided : (rs : List Refusal) (d : Answer) (g : Ground) (v : ℕ) → decide rs d ≡ Done g v
-    → ((n : Reason) → condition n rs ≡ false) × (d ≡ Done g v)
+decided : (rs : List Refusal) (d : Answer) (g : Ground) (v : ℕ) → decide rs d ≡ done g v
+    → ((n : Reason) → condition n rs ≡ false) × (d ≡ done g v)
 unfolding decide condition
 decided [] d g v e = (λ n. refl, e)
 decided (r ∷ rs) d g v e = go r.applies refl e (decided rs d g v)
@@ -48,22 +47,42 @@ decided (r ∷ rs) d g v e = go r.applies refl e (decided rs d g v)
     pick true n a b = a
     pick false n a b = b
 
-    go : (t : Bool) → r.applies ≡ t → cond t (Refused r.reason) (decide rs d) ≡ Done g v
-        → (decide rs d ≡ Done g v → ((n : Reason) → condition n rs ≡ false) × (d ≡ Done g v))
-        → ((n : Reason) → condition n (r ∷ rs) ≡ false) × (d ≡ Done g v)
+    go : (t : Bool) → r.applies ≡ t → cond t (refused r.reason) (decide rs d) ≡ done g v
+        → (decide rs d ≡ done g v → ((n : Reason) → condition n rs ≡ false) × (d ≡ done g v))
+        → ((n : Reason) → condition n (r ∷ rs) ≡ false) × (d ≡ done g v)
     go true a e more = absurd (false≢true cc)
     go false a e more =
         let m = more e in (λ n. pick (eqb (number_of r.reason) (number_of n)) n a (m.0 n), m.1)
 
+-- what is done has one ground and one value
+pub done-injective : {g h : Ground} {v w : ℕ} → done g v ≡ done h w → (g ≡ h) × (v ≡ w)
+done-injective {g} {h} {v} {w} e = (ap ground_in e, ap value_in e)
+  where
+    ground_in : Answer → Ground
+    ground_in (Ok d) = d.ground
+    ground_in (Err n) = Nothing
+
+    value_in : Answer → ℕ
+    value_in (Ok d) = d.value
+    value_in (Err n) = 0
+
 module _ (L : Limits) (w : View) where
-  pub clear : (x : Action) (g : Ground) (v : ℕ) → answer L w x ≡ Done g v → (n : Reason)
+  pub clear : (x : Action) (g : Ground) (v : ℕ) → answer L w x ≡ done g v → (n : Reason)
       → condition n (refusals L w x) ≡ false
   unfolding answer
   clear x g v e = (decided (refusals L w x) _ g v e).0
 
-  pub its-value : (x : Action) (g : Ground) (v : ℕ) → answer L w x ≡ Done g v → value_for L w x ≡ v
+  -- its ground and its value are those of the rules
+  same : (x : Action) (g : Ground) (v : ℕ) → answer L w x ≡ done g v
+      → done (ground_for w x) (value_for L w x) ≡ done g v
   unfolding answer
-  its-value x g v e = let d = (decided (refusals L w x) _ g v e).1 in cc
+  same x g v e = let d = (decided (refusals L w x) _ g v e).1 in cc
+
+  pub its-value : (x : Action) (g : Ground) (v : ℕ) → answer L w x ≡ done g v → value_for L w x ≡ v
+  its-value x g v e = (done-injective (same x g v e)).1
+
+  pub its-ground : (x : Action) (g : Ground) (v : ℕ) → answer L w x ≡ done g v → ground_for w x ≡ g
+  its-ground x g v e = (done-injective (same x g v e)).0
 
 -- ---- what may be missing
 module _ {A : Type 0} (o : Option A) where
@@ -112,11 +131,11 @@ pub record New (w : View) (m : Manifest) : Type 0 where
   pub defines : any (λ d. is_some (known w d.permission)) m.defines ≡ false
 
 module _ (L : Limits) (w : View) (g : Ground) (v : ℕ) where
-  pub install-good : (i : Bool) (m : Manifest) → answer L w (on_apps (install i m)) ≡ Done g v → good m ≡ true
+  pub install-good : (i : Bool) (m : Manifest) → answer L w (on_apps (install i m)) ≡ done g v → good m ≡ true
   unfolding refusals condition
   install-good i m e = not-false (good m) (clear L w (on_apps (install i m)) g v e MalformedManifest)
 
-  pub install-new : (i : Bool) (m : Manifest) → answer L w (on_apps (install i m)) ≡ Done g v → New w m
+  pub install-new : (i : Bool) (m : Manifest) → answer L w (on_apps (install i m)) ≡ done g v → New w m
   unfolding refusals condition clash
   install-new i m e =
       let c = clear L w (on_apps (install i m)) g v e AlreadyThere in
@@ -128,26 +147,26 @@ module _ (L : Limits) (w : View) (g : Ground) (v : ℕ) where
         defines = or-false_r components _ rest;
       }
 
-  pub install-room : (i : Bool) (m : Manifest) → answer L w (on_apps (install i m)) ≡ Done g v → crowded L w m ≡ false
+  pub install-room : (i : Bool) (m : Manifest) → answer L w (on_apps (install i m)) ≡ done g v → crowded L w m ≡ false
   unfolding refusals condition
   install-room i m e = clear L w (on_apps (install i m)) g v e NoRoom
 
   -- ---- uninstall
-  pub uninstall-idle : (b : ℕ) → answer L w (on_apps (uninstall b)) ≡ Done g v → is_running L w b ≡ false
+  pub uninstall-idle : (b : ℕ) → answer L w (on_apps (uninstall b)) ≡ done g v → is_running L w b ≡ false
   unfolding refusals condition
   uninstall-idle b e = clear L w (on_apps (uninstall b)) g v e InUse
 
   -- ---- grants
-  pub grant-app : (b p : ℕ) → answer L w (on_grants (grant b p)) ≡ Done g v → is_some (w.app b) ≡ true
+  pub grant-app : (b p : ℕ) → answer L w (on_grants (grant b p)) ≡ done g v → is_some (w.app b) ≡ true
   unfolding refusals condition
   grant-app b p e = here (w.app b) (clear L w (on_grants (grant b p)) g v e NoSuchApp)
 
-  pub grant-new : (b p : ℕ) → answer L w (on_grants (grant b p)) ≡ Done g v → w.granted b p ≡ false
+  pub grant-new : (b p : ℕ) → answer L w (on_grants (grant b p)) ≡ done g v → w.granted b p ≡ false
   unfolding refusals condition
   grant-new b p e = clear L w (on_grants (grant b p)) g v e AlreadyThere
 
   -- the app lists the permission, which is defined and dangerous
-  pub grant-grantable : (b p : ℕ) → answer L w (on_grants (grant b p)) ≡ Done g v
+  pub grant-grantable : (b p : ℕ) → answer L w (on_grants (grant b p)) ≡ done g v
       → (a : App) × (w.app b ≡ some a) × (test (known w p) (grantable a p) ≡ true)
   unfolding refusals condition test
   grant-grantable b p e =
@@ -162,20 +181,20 @@ module _ (L : Limits) (w : View) (g : Ground) (v : ℕ) where
           let z : test (some a) (λ a. test (some k) (λ k. not (grantable a p k))) ≡ false = rw (r, s) at e in
           rw s (not-false (grantable a p k) z)
 
-  pub group-app : (b p : ℕ) → answer L w (on_grants (grant_group b p)) ≡ Done g v → is_some (w.app b) ≡ true
+  pub group-app : (b p : ℕ) → answer L w (on_grants (grant_group b p)) ≡ done g v → is_some (w.app b) ≡ true
   unfolding refusals condition
   group-app b p e = here (w.app b) (clear L w (on_grants (grant_group b p)) g v e NoSuchApp)
 
-  pub group-new : (b p : ℕ) → answer L w (on_grants (grant_group b p)) ≡ Done g v → w.grouped b p ≡ false
+  pub group-new : (b p : ℕ) → answer L w (on_grants (grant_group b p)) ≡ done g v → w.grouped b p ≡ false
   unfolding refusals condition
   group-new b p e = clear L w (on_grants (grant_group b p)) g v e AlreadyThere
 
-  pub group-range : (b p : ℕ) → answer L w (on_grants (grant_group b p)) ≡ Done g v → is_group p ≡ true
+  pub group-range : (b p : ℕ) → answer L w (on_grants (grant_group b p)) ≡ done g v → is_group p ≡ true
   unfolding refusals condition
   group-range b p e = not-false (is_group p) (clear L w (on_grants (grant_group b p)) g v e Undefined)
 
   -- ---- start: its value is a free number
-  start-found : (c n : ℕ) → answer L w (on_runs (start c n)) ≡ Done g v → free_number L w ≡ some v
+  start-found : (c n : ℕ) → answer L w (on_runs (start c n)) ≡ done g v → free_number L w ≡ some v
   unfolding refusals condition value_for
   start-found c n e = go (free_number L w) (the (free_number L w) (clear L w (on_runs (start c n)) g v e NoRoom))
       (its-value L w (on_runs (start c n)) g v e)
@@ -184,17 +203,17 @@ module _ (L : Limits) (w : View) (g : Ground) (v : ℕ) where
       go none t q = absurd (false≢true (let z = t.1 in cc))
       go (some y) t q = unfold or_else in ap some q
 
-  pub start-free : (c n : ℕ) → answer L w (on_runs (start c n)) ≡ Done g v → w.runs v ≡ none
+  pub start-free : (c n : ℕ) → answer L w (on_runs (start c n)) ≡ done g v → w.runs v ≡ none
   unfolding free_number missing
   start-free c n e = nothing (w.runs v) (not-true (is_some (w.runs v))
       (find-holds (λ n. not (is_some (w.runs n))) (upto L.instances) v (start-found c n e)))
 
-  pub start-range : (c n : ℕ) → answer L w (on_runs (start c n)) ≡ Done g v → leb 1 v && leb v L.instances ≡ true
+  pub start-range : (c n : ℕ) → answer L w (on_runs (start c n)) ≡ done g v → leb 1 v && leb v L.instances ≡ true
   unfolding free_number
   start-range c n e = all_found (λ n. missing (w.runs n)) (within L.instances) (upto L.instances) v
       (start-found c n e) (upto-within L.instances)
 
-  pub start-part : (c n : ℕ) → answer L w (on_runs (start c n)) ≡ Done g v
+  pub start-part : (c n : ℕ) → answer L w (on_runs (start c n)) ≡ done g v
       → test (w.part c) (λ k. not (is_provider k.component)) ≡ true
   unfolding refusals condition startable
   start-part c n e =
@@ -210,7 +229,7 @@ module _ (L : Limits) (w : View) (g : Ground) (v : ℕ) where
           pick false e = refl
 
   -- ---- write
-  pub write-there : (p n u x : ℕ) → answer L w (write p n u x) ≡ Done g v → is_some (w.value p u) ≡ true
+  pub write-there : (p n u x : ℕ) → answer L w (write p n u x) ≡ done g v → is_some (w.value p u) ≡ true
   unfolding refusals condition
   write-there p n u x e = here (w.value p u) (clear L w (write p n u x) g v e NoSuchResource)
 
@@ -245,7 +264,7 @@ provider-shares w p e h = go (w.part p) e h
         pick false e h = absurd (false≢true (sym e))
 
 module _ (L : Limits) (w : View) (o p n u : ℕ) (r : Receiver) (g : Ground) (v : ℕ)
-    (e : answer L w (on_loans (lend o p n u r)) ≡ Done g v) where
+    (e : answer L w (on_loans (lend o p n u r)) ≡ done g v) where
   pub lend-facts : Lent w o p u r
   unfolding refusals condition
   lend-facts =
@@ -278,7 +297,7 @@ lends_some (on_loans (lend o p n u r)) = is_operations o
 lends_some (on_loans (withdraw o p n u)) = true
 lends_some (query z) = true
 
-pub lends_some_lem : (L : Limits) (w : View) (x : Action) (g : Ground) (v : ℕ) → answer L w x ≡ Done g v
+pub lends_some_lem : (L : Limits) (w : View) (x : Action) (g : Ground) (v : ℕ) → answer L w x ≡ done g v
     → lends_some x ≡ true
 unfolding lends_some
 lends_some_lem L w (on_apps z) g v e = refl

@@ -2,15 +2,9 @@
 -- Document 01, "Numbers that come back": a condition about something missing does not apply (`test`).
 use Rattle.std.specs.Prelude.{ℕ, zero, suc, Bool, true, false, not, ◌&&◌, cond, List, [], ◌∷◌, ◌++◌, eqb}
 use Rattle.std.proofs.Math.Option.{Option, none, some}
-pub use Rattle.manifest.specs.Good.{any}
-unfoldable pub use Rattle.manifest.specs.Good.{all}
+pub use Rattle.std.specs.List.{list_any as any, list_all as all, filter as keep}
 
 module _ {A : Type 0} where
-  -- those that pass, in their order
-  unfoldable pub keep : (A → Bool) → List A → List A
-  keep f [] = []
-  keep f (x ∷ l) = cond (f x) (x ∷ keep f l) (keep f l)
-
   -- the first that passes
   unfoldable pub find : (A → Bool) → List A → Option A
   find f [] = none

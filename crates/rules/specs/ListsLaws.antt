@@ -71,7 +71,6 @@ module _ {A : Type 0} where
   any-one f x = or-false (f x)
 
   pub any-keep : (f g : A → Bool) (l : List A) → any f (keep g l) ≡ any (λ x. g x && f x) l
-  unfolding keep
   any-keep f g [] = refl
   any-keep f g (x ∷ l) = go (g x) (any-keep f g l)
     where
@@ -89,7 +88,6 @@ module _ {A : Type 0} where
   any-and false f (x ∷ l) = any-and false f l
 
   pub all_append : (f : A → Bool) (l m : List A) → all f (l ++ m) ≡ all f l && all f m
-  unfolding all
   all_append f [] m = refl
   all_append f (x ∷ l) m = rw (all_append f l m, and_assoc)
 
@@ -99,7 +97,6 @@ module _ {A B : Type 0} where
   any-map f g (x ∷ l) = rw (any-map f g l)
 
   pub keep-map : (f : B → Bool) (g : A → B) (l : List A) → keep f (map g l) ≡ map g (keep (λ x. f (g x)) l)
-  unfolding keep
   keep-map f g [] = refl
   keep-map f g (x ∷ l) = go (f (g x)) (keep-map f g l)
     where
@@ -287,7 +284,7 @@ module _ {A : Type 0} where
   find-one f x = refl
 
   pub find-keep : (f g : A → Bool) (l : List A) → find f (keep g l) ≡ find (λ x. g x && f x) l
-  unfolding find keep
+  unfolding find
   find-keep f g [] = refl
   find-keep f g (x ∷ l) = go (g x) (find-keep f g l)
     where
@@ -338,13 +335,11 @@ find-map f g (x ∷ l) = go (f (g x)) (find-map f g l)
 module _ {A : Type 0} where
   pub all-mono : (f g : A → Bool) → ((x : A) → f x ≡ true → g x ≡ true) → (l : List A) → all f l ≡ true
       → all g l ≡ true
-  unfolding all
   all-mono f g h [] e = refl
   all-mono f g h (x ∷ l) e = both (h x (and_left _ _ e)) (all-mono f g h l (and_right (f x) _ e))
 
   pub all_keep : (f g k : A → Bool) → ((x : A) → f x ≡ true → k x ≡ true → g x ≡ true) → (l : List A) → all f l ≡ true
       → all g (keep k l) ≡ true
-  unfolding all keep
   all_keep f g k h [] e = refl
   all_keep f g k h (x ∷ l) e = go (k x) refl (all_keep f g k h l (and_right (f x) _ e))
     where
@@ -364,7 +359,6 @@ module _ {A : Type 0} where
 
   -- of what all pass, something passes a test
   pub all_any : (f g : A → Bool) (l : List A) → all f l ≡ true → any g l ≡ true → (x : A) × (f x ≡ true) × (g x ≡ true)
-  unfolding all
   all_any f g [] a e = absurd (false≢true e)
   all_any f g (x ∷ l) a e = go (g x) refl e (all_any f g l (and_right (f x) _ a))
     where
@@ -374,7 +368,6 @@ module _ {A : Type 0} where
       go false q e h = h e
 
   pub none-all : (f : A → Bool) (l : List A) → any f l ≡ false → all (λ x. not (f x)) l ≡ true
-  unfolding all
   none-all f [] e = refl
   none-all f (x ∷ l) e = go (f x) e (none-all f l)
     where
@@ -397,7 +390,6 @@ module _ {A : Type 0} where
           or-true false = refl
 
 pub all_map : {A B : Type 0} (f : B → Bool) (g : A → B) (l : List A) → all f (map g l) ≡ all (λ x. f (g x)) l
-unfolding all
 all_map f g [] = refl
 all_map f g (x ∷ l) = rw (all_map f g l)
 
@@ -430,22 +422,18 @@ any-split g f (x ∷ l) e n = go (g x) (f x) e n (any-split g f l)
 -- members
 module _ {A : Type 0} where
   pub all-mem : (f : A → Bool) {x : A} {l : List A} → Memᴰ x l → all f l ≡ true → f x ≡ true
-  unfolding all
   all-mem f (Memᴰ.head e) a = rw e (and_left _ _ a)
   all-mem f (Memᴰ.tail {x = y} m) a = all-mem f m (and_right (f y) _ a)
 
   pub mem-all : (f : A → Bool) (l : List A) → ((x : A) → Memᴰ x l → f x ≡ true) → all f l ≡ true
-  unfolding all
   mem-all f [] h = refl
   mem-all f (x ∷ l) h = both (h x (Memᴰ.head refl)) (mem-all f l (λ y m. h y (Memᴰ.tail m)))
 
   pub keep-mem : (f g : A → Bool) (l : List A) → ((x : A) → Memᴰ x l → f x ≡ g x) → keep f l ≡ keep g l
-  unfolding keep
   keep-mem f g [] h = refl
   keep-mem f g (x ∷ l) h = rw (h x (Memᴰ.head refl), keep-mem f g l (λ y m. h y (Memᴰ.tail m)))
 
   pub keep_all : (f : A → Bool) (l : List A) → ((x : A) → Memᴰ x l → f x ≡ true) → keep f l ≡ l
-  unfolding keep
   keep_all f [] h = refl
   keep_all f (x ∷ l) h = rw (h x (Memᴰ.head refl), keep_all f l (λ y m. h y (Memᴰ.tail m)))
 
@@ -459,7 +447,7 @@ module _ {A : Type 0} where
 -- no two alike
 module _ {A : Type 0} (same : A → A → Bool) where
   pub distinct-keep : (f : A → Bool) (l : List A) → distinct same l ≡ true → distinct same (keep f l) ≡ true
-  unfolding distinct keep
+  unfolding distinct
   distinct-keep f [] e = refl
   distinct-keep f (x ∷ l) e = go (f x) (distinct-keep f l (and_right (not (any (same x) l)) _ e))
       (and_left _ (distinct same l) e)
@@ -500,7 +488,6 @@ module _ {A : Type 0} (same : A → A → Bool) where
 
 module _ {A : Type 0} where
   pub keep-passes : (f : A → Bool) (l : List A) → all f (keep f l) ≡ true
-  unfolding all keep
   keep-passes f [] = refl
   keep-passes f (x ∷ l) = go (f x) refl (keep-passes f l)
     where
@@ -510,12 +497,10 @@ module _ {A : Type 0} where
 
   -- where all pass c, asking for c asks for nothing
   pub any-all : (f c : A → Bool) (l : List A) → all c l ≡ true → any (λ x. f x && c x) l ≡ any f l
-  unfolding all
   any-all f c [] e = refl
   any-all f c (x ∷ l) e = rw (and_left (c x) _ e, and-true, any-all f c l (and_right (c x) _ e))
 
 pub none_kept : {A : Type 0} (f : A → Bool) (l : List A) → ((x : A) → Memᴰ x l → f x ≡ false) → keep f l ≡ []
-unfolding keep
 none_kept f [] h = refl
 none_kept f (x ∷ l) h = rw (h x (Memᴰ.head refl)) (none_kept f l (λ y m. h y (Memᴰ.tail m)))
 
@@ -528,7 +513,7 @@ module _ where
 
   count-one : (f : ℕ → Bool) (u : List ℕ) (m : ℕ) → distinct eqb u ≡ true → any (eqb m) u ≡ true → f m ≡ false
       → length (keep (λ n. eqb m n || f n) u) ≡ suc (length (keep f u))
-  unfolding keep distinct
+  unfolding distinct
   count-one f [] m d e n = absurd (false≢true e)
   count-one f (x ∷ u) m d e n = by_eqb (λ t. t || any (eqb m) u ≡ true
       → length (cond (t || f x) (x ∷ keep (λ n. eqb m n || f n) u) (keep (λ n. eqb m n || f n) u))
@@ -551,7 +536,7 @@ module _ where
   pub counted : {A : Type 0} (num : A → ℕ) (u : List ℕ) → distinct eqb u ≡ true → (l : List A)
       → distinct (λ x y. eqb (num x) (num y)) l ≡ true → all (λ x. any (eqb (num x)) u) l ≡ true
       → length l ≡ length (keep (λ n. any (λ x. eqb (num x) n) l) u)
-  unfolding all distinct
+  unfolding distinct
   counted num u du [] d e = sym (ap length (keep-never u))
     where
       keep-never : (u : List ℕ) → keep (λ n. false) u ≡ []
@@ -574,7 +559,7 @@ find-in f g (y ∷ l) x e h = go (f y) e (λ q. find-in f g l x q h)
 
 -- what is found passes what all pass
 pub all_found : {A : Type 0} (f g : A → Bool) (l : List A) (x : A) → find f l ≡ some x → all g l ≡ true → g x ≡ true
-unfolding find all
+unfolding find
 all_found f g [] x e h = absurd (true≢false cc)
 all_found f g (y ∷ l) x e h = go (f y) e (λ q. all_found f g l x q (and_right (g y) _ h))
   where
@@ -620,7 +605,6 @@ module _ {A : Type 0} where
 
 module _ {A : Type 0} where
   pub keep_append : (f : A → Bool) (l m : List A) → keep f (l ++ m) ≡ keep f l ++ keep f m
-  unfolding keep
   keep_append f [] m = refl
   keep_append f (x ∷ l) m = go (f x) (keep_append f l m)
     where
@@ -630,7 +614,6 @@ module _ {A : Type 0} where
       go false e = e
 
   pub keep-keep : (f g : A → Bool) (l : List A) → keep f (keep g l) ≡ keep (λ x. g x && f x) l
-  unfolding keep
   keep-keep f g [] = refl
   keep-keep f g (x ∷ l) = go (g x) (keep-keep f g l)
     where
@@ -641,7 +624,6 @@ module _ {A : Type 0} where
       go false e = e
 
   pub length-keep : (f : A → Bool) (l : List A) → length (keep f l) ≤ length l
-  unfolding keep
   length-keep f [] = omega arith
   length-keep f (x ∷ l) = go (f x) (length-keep f l)
     where

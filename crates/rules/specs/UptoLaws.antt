@@ -16,7 +16,7 @@ length-upto zero = refl
 length-upto (suc n) = let h = length-upto n in length-append (upto n) (suc n ∷ []) ∙ omega arith
 
 pub upto-within : (n : ℕ) → all (within n) (upto n) ≡ true
-unfolding upto all
+unfolding upto
 upto-within zero = refl
 upto-within (suc n) = all_append (within (suc n)) (upto n) (suc n ∷ [])
     ∙ rw (

@@ -9,28 +9,29 @@ ghost use Rattle.rules.specs.Permissions.{is_held};
 use manifest::{Component, Define};
 
 /// A permission defined by an installed app, with the app's number.
-#[derive(Clone, Copy)]
+#[derive(Clone, Copy, PartialEq, Eq, Default)]
 pub struct Definition {
     pub app: u16,
     pub define: Define,
 }
 
 /// An installed component, with its app's number.
-#[derive(Clone, Copy)]
+#[derive(Clone, Copy, PartialEq, Eq, Default)]
 pub struct Part {
     pub app: u16,
     pub component: Component,
 }
 
 /// A running instance, and the number of its component.
-#[derive(Clone, Copy)]
+#[derive(Clone, Copy, PartialEq, Eq, Default)]
 pub struct Instance {
     pub number: u8,
     pub component: u16,
 }
 
-/// A loan on a resource: kind 1 to an instance, kind 2 to an app. Operations: 1 read, 2 write, 3 both.
-#[derive(Clone, Copy)]
+/// A loan on a resource: kind 1 to an instance, kind 2 to an app. Operations: 1 read, 2 write, 3 both. Kind and
+/// operations are bytes and no enums, since the validity of a lent table (`device::valid`) is asked of every byte.
+#[derive(Clone, Copy, PartialEq, Eq, Default)]
 pub struct Loan {
     pub kind: u8,
     pub receiver: u16,
@@ -39,8 +40,8 @@ pub struct Loan {
     pub operations: u8,
 }
 
-/// A definition in force; definer 0 is the platform.
-#[derive(Clone, Copy)]
+/// A definition in force; definer 0 is the platform. The level is a byte and no enum, as in a manifest's defines.
+#[derive(Clone, Copy, PartialEq, Eq)]
 pub struct Known {
     pub definer: u16,
     pub signer: u32,
@@ -48,45 +49,48 @@ pub struct Known {
     pub group: u8,
 }
 
-/// What a done read or write rests on; `Nothing` for every other action.
-#[derive(Clone, Copy)]
+/// What a done read or write rests on. `Nothing`, for every other action, is the ground that document 01 numbers 0.
+#[derive(Clone, Copy, PartialEq, Eq)]
 pub enum Ground {
-    Nothing,
-    Owner,
-    Permission,
-    LoanToInstance,
-    LoanToApp,
+    Nothing = 0,
+    Owner = 1,
+    Permission = 2,
+    LoanToInstance = 3,
+    LoanToApp = 4,
 }
 
-/// Why an action is refused, in the order of document 01's table.
-#[derive(Clone, Copy)]
+/// Why an action is refused, in the order and with the numbers of document 01's table.
+#[derive(Clone, Copy, PartialEq, Eq)]
 pub enum Reason {
-    StateNotValid,
-    MalformedAction,
-    MalformedManifest,
-    AlreadyThere,
-    NoSuchApp,
-    NoSuchComponent,
-    NoSuchInstance,
-    NoSuchResource,
-    Undefined,
-    CannotBeGranted,
-    NotPermitted,
-    NothingToTakeBack,
-    InUse,
-    PartOfTheImage,
-    NoRoom,
+    StateNotValid = 1,
+    MalformedAction = 2,
+    MalformedManifest = 3,
+    AlreadyThere = 4,
+    NoSuchApp = 5,
+    NoSuchComponent = 6,
+    NoSuchInstance = 7,
+    NoSuchResource = 8,
+    Undefined = 9,
+    CannotBeGranted = 10,
+    NotPermitted = 11,
+    NothingToTakeBack = 12,
+    InUse = 13,
+    PartOfTheImage = 14,
+    NoRoom = 15,
+}
+
+/// What a done action gives back.
+#[derive(Clone, Copy, PartialEq, Eq)]
+pub struct Done {
+    pub ground: Ground,
+    pub value: u32,
 }
 
 /// What comes back for an action.
-#[derive(Clone, Copy)]
-pub enum Answer {
-    Done { ground: Ground, value: u32 },
-    Refused(Reason),
-}
+pub type Answer = Result<Done, Reason>;
 
 /// Why an app holds a defined permission, or does not.
-#[derive(Clone, Copy)]
+#[derive(Clone, Copy, PartialEq, Eq)]
 pub enum Hold {
     Normal,
     Granted,
@@ -99,53 +103,31 @@ pub enum Hold {
 }
 
 /// Document 01's number of a refusal.
-pub fn number(reason: Reason) -> u32
-    ensures { result ≡ number_of reason }
-{
-    match reason {
-        Reason::StateNotValid => 1,
-        Reason::MalformedAction => 2,
-        Reason::MalformedManifest => 3,
-        Reason::AlreadyThere => 4,
-        Reason::NoSuchApp => 5,
-        Reason::NoSuchComponent => 6,
-        Reason::NoSuchInstance => 7,
-        Reason::NoSuchResource => 8,
-        Reason::Undefined => 9,
-        Reason::CannotBeGranted => 10,
-        Reason::NotPermitted => 11,
-        Reason::NothingToTakeBack => 12,
-        Reason::InUse => 13,
-        Reason::PartOfTheImage => 14,
-        Reason::NoRoom => 15,
+impl From<Reason> for u32 {
+    ghost from_gives = { λ reason n. n ≡ number_of reason };
+
+    fn from(reason: Reason) -> u32 {
+        reason as u32
     }
 }
 
 /// Document 01's number of a ground.
-pub fn ground_number(ground: Ground) -> u32
-    ensures { result ≡ ground_number ground }
-{
-    match ground {
-        Ground::Nothing => 0,
-        Ground::Owner => 1,
-        Ground::Permission => 2,
-        Ground::LoanToInstance => 3,
-        Ground::LoanToApp => 4,
+impl From<Ground> for u32 {
+    ghost from_gives = { λ ground n. n ≡ ground_number ground };
+
+    fn from(ground: Ground) -> u32 {
+        ground as u32
     }
 }
 
-/// Is the permission held?
-pub fn held(hold: Hold) -> bool
-    ensures { result ≡ is_held hold }
-{
-    match hold {
-        Hold::Normal => true,
-        Hold::Granted => true,
-        Hold::ByGroup => true,
-        Hold::BySigner => true,
-        Hold::ByImage => true,
-        Hold::NotListed => false,
-        Hold::NotGranted => false,
-        Hold::SignerDiffers => false,
+impl Hold {
+    /// Is the permission held?
+    pub fn is_held(self) -> bool
+        ensures { result ≡ is_held self }
+    {
+        matches!(
+            self,
+            Hold::Normal | Hold::Granted | Hold::ByGroup | Hold::BySigner | Hold::ByImage
+        )
     }
 }

@@ -3,7 +3,7 @@
 
 use reading::read_full;
 use std::io;
-use tape::Wrote;
+use tape::TooShort;
 
 // The buffers hold 65,536 bytes. The longest tape has 57,411, so input that does not end in the buffer is refused; and
 // no sheet has more than 49,250, so there is always room.
@@ -12,8 +12,8 @@ fn main(rt: HostRuntime) -> io::Result<()> {
     let read = read_full(&mut rt.stdin(), &mut bytes)?;
     let mut out = [0u8; 65536];
     match tape::sheet_of(&bytes[..read], &mut out) {
-        Wrote::Bytes(n) => written(&rt, &out[..n]),
-        Wrote::TooShort => Ok(()),
+        Ok(n) => written(&rt, &out[..n]),
+        Err(TooShort) => Ok(()),
     }
 }
 

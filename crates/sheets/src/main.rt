@@ -7,7 +7,6 @@ ghost use Rattle.std.specs.Prelude.{◌+◌, ◌*◌, ◌≤◌, ◌<◌, length
 use reading::read_full;
 use std::io;
 use std::io::Read;
-use tape::Wrote;
 
 fn main(rt: HostRuntime) -> io::Result<()> {
     let mut bytes = [0u8; 65536];
@@ -59,17 +58,15 @@ fn put_sheet(tape: &[u8], out: &mut [u8], at: usize) -> usize
     ensures { result ≤ length out.new }
 {
     let room = out.len() - at;
-    match tape::sheet_of(tape, &mut out[at..]) {
-        Wrote::Bytes(n) => {
-            if room - n < 2 {
-                return at;
-            }
-            out[at + n] = b'.';
-            out[at + n + 1] = b'\n';
-            at + n + 2
-        }
-        Wrote::TooShort => at,
+    let Ok(n) = tape::sheet_of(tape, &mut out[at..]) else {
+        return at;
+    };
+    if room - n < 2 {
+        return at;
     }
+    let end = at + n;
+    out[end..end + 2].copy_from_slice(b".\n");
+    end + 2
 }
 
 // The next tape is read to the front of the buffer. The answer is its length, or that the stream has ended. A tape that
@@ -81,21 +78,9 @@ fn next_tape(rt: &HostRuntime, bytes: &mut [u8]) -> io::Result<Option<usize>>
     if read_full(&mut rt.stdin(), &mut head)? < 4 {
         return Ok(None);
     }
-    let n = length_of(&head);
+    let n = u32::from_le_bytes(head) as usize;
     let m = n.min(bytes.len());
     let read = read_full(&mut rt.stdin(), &mut bytes[..m])?;
     io::copy(&mut rt.stdin().take((n - m) as u64), &mut io::sink())?;
     Ok(Some(read))
-}
-
-fn length_of(head: &[u8; 4]) -> usize
-    ensures { result < 4294967296 }
-{
-    wide(head[0]) + 256 * wide(head[1]) + 65536 * wide(head[2]) + 16777216 * wide(head[3])
-}
-
-fn wide(x: u8) -> usize
-    ensures { result < 256 }
-{
-    x as usize
 }

@@ -32,7 +32,6 @@ instances-fit L s ok = at-most (λ i. i.number) L.instances s.instances ok.numbe
 
 split-length : {A : Type 0} (f : A → Bool) (l : List A)
     → length l ≡ length (keep f l) + length (keep (λ x. not (f x)) l)
-unfolding keep
 split-length f [] = refl
 split-length f (x ∷ l) = go (f x) (split-length f l)
   where
@@ -56,7 +55,6 @@ module _ {A B : Type 0} (owner : A → ℕ) (num : B → ℕ) (k : ℕ) where
 
   so-many-each : (rs : List B) (l : List A) → all (belongs rs) l ≡ true → all (few l) rs ≡ true
       → length l ≤ k * length rs
-  unfolding all
   so-many-each [] [] owned h = omega arith
   so-many-each [] (x ∷ l) owned h = absurd (false≢true owned)
   so-many-each (r ∷ rs) l owned h =

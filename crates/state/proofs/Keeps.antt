@@ -1,13 +1,11 @@
 -- Every accepted action keeps the state valid; the fresh device is valid; so every device that is reached is.
-use Rattle.std.specs.Prelude.{ℕ, ◌≡◌, refl, true, List, [], ◌∷◌}
+use Rattle.std.specs.Prelude.{ℕ, ◌≡◌, refl, true, List, [], ◌∷◌, Result}
 use Rattle.std.proofs.Math.Dec.{leb-zero}
 use Rattle.rules.specs.declared.Ground.{Ground}
-use Rattle.rules.specs.declared.Answer.{Answer}
-use Rattle.rules.specs.declared.Answer.TheVariants.{Done, Refused}
-use Rattle.rules.specs.Lists.{all, distinct}
+use Rattle.rules.specs.Lists.{distinct}
 use Rattle.rules.specs.Limits.{Limits}
 use Rattle.rules.specs.Action.{Action}
-use Rattle.rules.specs.Answer.{answer}
+use Rattle.rules.specs.Answer.{Answer, done, answer}
 use Rattle.state.specs.Tables.{State, fresh, view_of}
 use Rattle.state.specs.Effects.{next, after, device}
 use Rattle.state.specs.Valid.{tests, every, valid}
@@ -18,7 +16,7 @@ use Rattle.state.proofs.KeepsInstances.{instances-ok}
 use Rattle.state.proofs.KeepsLoans.{loans-ok}
 use Rattle.state.proofs.KeepsLimits.{limits-ok}
 
-keeps-ok : (L : Limits) (s : State) (x : Action) (g : Ground) (v : ℕ) → Ok L s → answer L (view_of s) x ≡ Done g v
+keeps-ok : (L : Limits) (s : State) (x : Action) (g : Ground) (v : ℕ) → Ok L s → answer L (view_of s) x ≡ done g v
     → Ok L (next s x v)
 unfolding next
 keeps-ok L s x g v ok e =
@@ -32,11 +30,11 @@ keeps-ok L s x g v ok e =
     }
 
 pub keeps : (L : Limits) (s : State) (x : Action) (g : Ground) (v : ℕ) → valid L s ≡ true
-    → answer L (view_of s) x ≡ Done g v → valid L (next s x v) ≡ true
+    → answer L (view_of s) x ≡ done g v → valid L (next s x v) ≡ true
 keeps L s x g v h e = ok→valid L (next s x v) (keeps-ok L s x g v (valid→ok L s h) e)
 
 pub fresh-valid : (L : Limits) → valid L fresh ≡ true
-unfolding valid tests every fresh distinct all
+unfolding valid tests every fresh distinct
 fresh-valid L = rw (
   leb-zero L.apps,
   leb-zero L.components,
@@ -51,8 +49,8 @@ pub answered-valid : (L : Limits) (s : State) (x : Action) → valid L s ≡ tru
 answered-valid L s x h = go (answer L (view_of s) x) refl
   where
     go : (r : Answer) → answer L (view_of s) x ≡ r → valid L (after s x r) ≡ true
-    go (Refused n) e = unfold after in h
-    go (Done g v) e = unfold after in keeps L s x g v h e
+    go (Result.Err n) e = unfold after in h
+    go (Result.Ok d) e = unfold after in keeps L s x d.ground d.value h e
 
 pub reached-valid : (L : Limits) (xs : List Action) → valid L (device L xs) ≡ true
 unfolding device

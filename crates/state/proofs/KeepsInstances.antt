@@ -12,7 +12,6 @@ use Rattle.manifest.specs.Good.{is_provider}
 use Rattle.rules.specs.declared.Part.{Part}
 use Rattle.rules.specs.declared.Instance.{Instance}
 use Rattle.rules.specs.declared.Ground.{Ground}
-use Rattle.rules.specs.declared.Answer.TheVariants.{Done}
 use Rattle.rules.specs.Lists.{all, keep, find, distinct, test, map_option, or_find, upto}
 use Rattle.rules.specs.ListsLaws.{all_append, all-mono, all_keep, all-mem, mem-all, any-mem, none-mem, find-append}
 use Rattle.rules.specs.ListsLaws.{found}
@@ -21,7 +20,7 @@ use Rattle.rules.specs.Limits.{Limits}
 use Rattle.rules.specs.Action.{install, uninstall, start, stop, Action, on_apps, on_grants, on_runs, write, on_loans}
 use Rattle.rules.specs.Action.{query}
 use Rattle.rules.specs.Refusals.{is_running}
-use Rattle.rules.specs.Answer.{answer}
+use Rattle.rules.specs.Answer.{done, answer}
 use Rattle.rules.specs.DoneLaws.{uninstall-idle, start-part}
 use Rattle.state.specs.Tables.{State, part_at, owned_by, run_in, view_of}
 use Rattle.state.specs.Effects.{parts_after, instances_after, next}
@@ -68,9 +67,9 @@ module _ (L : Limits) (s : State) (one : distinct same_part s.parts ≡ true) (o
   abbrev runnable : List Part → Instance → Bool
   runnable ks i = test (part_at ks i.component) (λ k. not (is_provider k.component))
 
-  components-ok : (x : Action) (g : Ground) (v : ℕ) → answer L (view_of s) x ≡ Done g v
+  components-ok : (x : Action) (g : Ground) (v : ℕ) → answer L (view_of s) x ≡ done g v
       → all (runnable (parts_after s.parts x)) (instances_after s.instances x v) ≡ true
-  unfolding instances_after parts_after view_of all
+  unfolding instances_after parts_after view_of
   components-ok (on_apps (install i m)) g v e = all-mono (runnable s.parts) (runnable (s.parts ++ _))
       (λ i h. part-more s.parts _ i.component (λ k. not (is_provider k.component)) h) s.instances
       ok.components
@@ -87,7 +86,7 @@ module _ (L : Limits) (s : State) (one : distinct same_part s.parts ≡ true) (o
   components-ok (on_loans z) g v e = ok.components
   components-ok (query z) g v e = ok.components
 
-  pub instances-ok : (x : Action) (g : Ground) (v : ℕ) → answer L (view_of s) x ≡ Done g v
+  pub instances-ok : (x : Action) (g : Ground) (v : ℕ) → answer L (view_of s) x ≡ done g v
       → InstancesOk L (next s x v)
   unfolding next
   instances-ok x g v e = record {

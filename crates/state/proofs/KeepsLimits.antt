@@ -8,7 +8,6 @@ use Rattle.std.proofs.Common.{length-append, arith}
 use borrow.Author.Tests.{leb-true, leb-false, le-leb, ltb-false}
 use Rattle.rules.specs.declared.Loan.{Loan}
 use Rattle.rules.specs.declared.Ground.{Ground}
-use Rattle.rules.specs.declared.Answer.TheVariants.{Done}
 use Rattle.rules.specs.Lists.{any, keep}
 use Rattle.rules.specs.ListsLaws.{length-keep, length-map}
 use Rattle.rules.specs.Limits.{Limits}
@@ -16,7 +15,7 @@ use Rattle.rules.specs.Action.{Op, install, uninstall, grant, revoke, grant_grou
 use Rattle.rules.specs.Action.{withdraw, Action, on_apps, on_grants, on_runs, write, on_loans, query}
 use Rattle.rules.specs.View.{part_of}
 use Rattle.rules.specs.Refusals.{crowded, lent_any}
-use Rattle.rules.specs.Answer.{answer}
+use Rattle.rules.specs.Answer.{done, answer}
 use Rattle.rules.specs.DoneLaws.{install-room, lend-room, or-false_l, or-false_r}
 use Rattle.state.specs.Tables.{State, is_loan, view_of}
 use Rattle.state.specs.Effects.{apps_after, parts_after, resources_after, loan_of, kept, carries_any, reduce, widened}
@@ -53,7 +52,7 @@ reduced-within keeps ls k e = kept-within (map (kept keeps) ls) k carries_any (m
 
 -- ---- each table
 module _ (L : Limits) (s : State) (ok : LimitsOk L s) (g : Ground) (v : ℕ) where
-  apps-within : (x : Action) → answer L (view_of s) x ≡ Done g v
+  apps-within : (x : Action) → answer L (view_of s) x ≡ done g v
       → leb (length (apps_after s.definitions s.rows x)) L.apps ≡ true
   unfolding apps_after crowded view_of
   apps-within (on_apps (install i m)) e = one-more-within s.rows L.apps _
@@ -69,7 +68,7 @@ module _ (L : Limits) (s : State) (ok : LimitsOk L s) (g : Ground) (v : ℕ) whe
   apps-within (on_loans z) e = ok.apps
   apps-within (query z) e = ok.apps
 
-  components-within : (x : Action) → answer L (view_of s) x ≡ Done g v
+  components-within : (x : Action) → answer L (view_of s) x ≡ done g v
       → leb (length (parts_after s.parts x)) L.components ≡ true
   unfolding parts_after crowded view_of
   components-within (on_apps (install i m)) e =
@@ -83,7 +82,7 @@ module _ (L : Limits) (s : State) (ok : LimitsOk L s) (g : Ground) (v : ℕ) whe
   components-within (on_loans z) e = ok.components
   components-within (query z) e = ok.components
 
-  resources-within : (x : Action) → answer L (view_of s) x ≡ Done g v
+  resources-within : (x : Action) → answer L (view_of s) x ≡ done g v
       → leb (length (resources_after s.parts s.resources x)) L.resources ≡ true
   unfolding resources_after crowded view_of
   resources-within (on_apps (install i m)) e =
@@ -97,7 +96,7 @@ module _ (L : Limits) (s : State) (ok : LimitsOk L s) (g : Ground) (v : ℕ) whe
   resources-within (on_loans z) e = ok.resources
   resources-within (query z) e = ok.resources
 
-  loans-within : (x : Action) → answer L (view_of s) x ≡ Done g v → full_loans s.loans ≡ true
+  loans-within : (x : Action) → answer L (view_of s) x ≡ done g v → full_loans s.loans ≡ true
       → leb (length (loans_after s.parts s.loans x)) L.loans ≡ true
   unfolding loans_after lent_any view_of
   loans-within (on_apps (install i m)) e full = ok.loans
@@ -117,7 +116,7 @@ module _ (L : Limits) (s : State) (ok : LimitsOk L s) (g : Ground) (v : ℕ) whe
   loans-within (on_loans (withdraw o p n u)) e full = reduced-within _ s.loans L.loans ok.loans
   loans-within (query z) e full = ok.loans
 
-  pub limits-ok : (x : Action) → answer L (view_of s) x ≡ Done g v → full_loans s.loans ≡ true
+  pub limits-ok : (x : Action) → answer L (view_of s) x ≡ done g v → full_loans s.loans ≡ true
       → InstancesOk L (next s x v) → LimitsOk L (next s x v)
   unfolding next
   limits-ok x e full after = record {

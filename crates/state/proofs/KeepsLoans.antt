@@ -10,7 +10,6 @@ use Rattle.rules.specs.declared.Definition.{Definition}
 use Rattle.rules.specs.declared.Part.{Part}
 use Rattle.rules.specs.declared.Loan.{Loan}
 use Rattle.rules.specs.declared.Ground.{Ground}
-use Rattle.rules.specs.declared.Answer.TheVariants.{Done}
 use Rattle.rules.specs.Lists.{any, all, keep, find, is_some, test, bind, map_option}
 use Rattle.rules.specs.ListsLaws.{and_left, and_right, and-true, or-true, both, any_append, any-map, any-keep, any-mono}
 use Rattle.rules.specs.ListsLaws.{all_append, all_map, all-mono, all_keep, all-mem, mem-all, find-any, other}
@@ -19,7 +18,7 @@ use Rattle.rules.specs.Action.{Receiver, an_instance, an_app, receiver_kind, rec
 use Rattle.rules.specs.Action.{uninstall, grant, revoke, grant_group, revoke_group, start, stop, lend, withdraw, Action}
 use Rattle.rules.specs.Action.{on_apps, on_grants, on_runs, write, on_loans, query}
 use Rattle.rules.specs.Grounds.{running_app}
-use Rattle.rules.specs.Answer.{answer}
+use Rattle.rules.specs.Answer.{done, answer}
 use Rattle.rules.specs.DoneLaws.{or-false_l, or-false_r, receiver_there, lend-facts, lends_some_lem}
 use Rattle.state.specs.Tables.{Row, State, app_number, part_at, owned_by, run_in, is_resource, value_in, is_to, is_loan}
 use Rattle.state.specs.Tables.{view_of}
@@ -168,7 +167,7 @@ module _ (s : State) (v : ℕ) (k : Loan) (ok : LoanOk s k) where
 
 -- ---- the loan that a done lend makes
 lent_ok : (L : Limits) (s : State) (o p n u : ℕ) (r : Receiver) (g : Ground) (v : ℕ)
-    → answer L (view_of s) (on_loans (lend o p n u r)) ≡ Done g v → LoanOk s (loan_of r p u o)
+    → answer L (view_of s) (on_loans (lend o p n u r)) ≡ done g v → LoanOk s (loan_of r p u o)
 unfolding view_of bind map_option is_some receiver_there running_app value_in loan_of receiver_kind receiver_number
 lent_ok L s o p n u r g v e =
     let f = lend-facts L (view_of s) o p n u r g v e in
@@ -205,7 +204,7 @@ module _ (L : Limits) (s : State) (g : Ground) (v : ℕ) (full : full_loans s.lo
       (all_keep (good_loan s) (good_loan (next s x v)) (λ k. not (ends k))
       (λ k e n. stays x k (h k ∙ not-true (ends k) n) e) s.loans ok)
 
-  good-loans : (x : Action) → answer L (view_of s) x ≡ Done g v
+  good-loans : (x : Action) → answer L (view_of s) x ≡ done g v
       → all (good_loan (next s x v)) (loans_after s.parts s.loans x) ≡ true
   unfolding loans_after ended
   good-loans (on_apps (install i m)) e = all_stay (on_apps (install i m)) (λ k. refl)
@@ -225,7 +224,7 @@ module _ (L : Limits) (s : State) (g : Ground) (v : ℕ) (full : full_loans s.lo
           ∙ (unfold widened with_operations in all_stay (on_loans (lend o p n u r)) (λ k. refl))
       go false = all_append (good_loan after) s.loans (loan_of r p u o ∷ [])
           ∙ rw (all_stay (on_loans (lend o p n u r)) (λ k. refl))
-          (unfold all in (and-true _ ∙ good-loan after (loan_of r p u o)
+          ((and-true _ ∙ good-loan after (loan_of r p u o)
           (lasts s v (loan_of r p u o) (lent_ok L s o p n u r g v e) (on_loans (lend o p n u r)) refl)))
   good-loans (on_loans (withdraw o p n u)) e = unfold reduce in
       all_keep (good_loan after) (good_loan after) carries_any (λ k h _. h) (map (kept _) s.loans)
@@ -236,7 +235,7 @@ module _ (L : Limits) (s : State) (g : Ground) (v : ℕ) (full : full_loans s.lo
       after = next s (on_loans (withdraw o p n u)) v
   good-loans (query z) e = all_stay (query z) (λ k. refl)
 
-pub loans-ok : (L : Limits) (s : State) (x : Action) (g : Ground) (v : ℕ) → answer L (view_of s) x ≡ Done g v
+pub loans-ok : (L : Limits) (s : State) (x : Action) (g : Ground) (v : ℕ) → answer L (view_of s) x ≡ done g v
     → LoansOk s → LoansOk (next s x v)
 unfolding next
 loans-ok L s x g v e ok = record {

@@ -10,7 +10,6 @@ use Rattle.manifest.specs.Layout.{Manifest}
 use Rattle.manifest.specs.Good.{good}
 use Rattle.manifest.specs.GoodLaws.{good-parts}
 use Rattle.rules.specs.declared.Ground.{Ground}
-use Rattle.rules.specs.declared.Answer.TheVariants.{Done}
 use Rattle.rules.specs.Lists.{any, all, keep, find, mem, distinct, is_some}
 use Rattle.rules.specs.ListsLaws.{any-map, any-cong, eqb-sym, all_append, all_map, all-mem, mem-all, all_keep, none-mem}
 use Rattle.rules.specs.ListsLaws.{none_any, find-any, cond-all, distinct-keep, distinct-one, distinct-map}
@@ -19,7 +18,7 @@ use Rattle.rules.specs.Action.{install, uninstall, grant, revoke, grant_group, r
 use Rattle.rules.specs.Action.{on_runs, write, on_loans, query}
 use Rattle.rules.specs.View.{App, app_of}
 use Rattle.rules.specs.Refusals.{is_group}
-use Rattle.rules.specs.Answer.{answer}
+use Rattle.rules.specs.Answer.{done, answer}
 use Rattle.rules.specs.DoneLaws.{install-good, install-new, grant-new, group-new, group-range}
 use Rattle.state.specs.Tables.{Row, State, app_number, apps_of, app_at, granted_in, grouped_in, view_of}
 use Rattle.state.specs.Effects.{grants_at, groups_at, keep_grants, added, taken, apps_after}
@@ -51,7 +50,7 @@ all-change f g l h a = mem-all g l (λ x m. h x m (all-mem f m a))
 module _ (rs : List Row) (ok : RowsOk rs) where
   installed-rows : (i : Bool) (m : Manifest) → good m ≡ true → is_installed rs m.app ≡ false
       → RowsOk (rs ++ (record { app = app_of i m; grants = []; groups = [] } ∷ []))
-  unfolding all distinct
+  unfolding distinct
   installed-rows i m fine new = record {
     apps = distinct-one same_app rs _ new ok.apps;
     numbered = all_append (λ r. ltb 0 (app_number r)) rs _ ∙ rw (ok.numbered, (good-parts m fine).app);
@@ -121,9 +120,9 @@ new-mark rs get b q n r m e d = distinct-one eqb (get r) q
     out true t e _ = e
     out false t e z = absurd (false≢true z)
 
-pub rows_ok : (L : Limits) (s : State) (x : Action) (g : Ground) (v : ℕ) → answer L (view_of s) x ≡ Done g v
+pub rows_ok : (L : Limits) (s : State) (x : Action) (g : Ground) (v : ℕ) → answer L (view_of s) x ≡ done g v
     → RowsOk s.rows → RowsOk (apps_after s.definitions s.rows x)
-unfolding apps_after view_of granted_in grouped_in all
+unfolding apps_after view_of granted_in grouped_in
 rows_ok L s (on_apps (install i m)) g v e ok = installed-rows s.rows ok i m (install-good L (view_of s) g v i m e)
     (sym (installed-is s.rows m.app) ∙ (install-new L (view_of s) g v i m e).app)
 rows_ok L s (on_apps (uninstall b)) g v e ok = left-rows s.rows ok _ _

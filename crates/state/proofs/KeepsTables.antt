@@ -23,7 +23,6 @@ use Rattle.rules.specs.declared.Instance.{Instance}
 use Rattle.rules.specs.declared.Loan.{Loan}
 use Rattle.rules.specs.declared.Known.{Known}
 use Rattle.rules.specs.declared.Ground.{Ground}
-use Rattle.rules.specs.declared.Answer.TheVariants.{Done}
 use Rattle.rules.specs.Lists.{any, all, keep, find, distinct, is_some, test, bind, map_option, or_find}
 use Rattle.rules.specs.ListsLaws.{all_found, and_left, and-true, or-true, both, flat, clashing, eqb_same, eqb-sym}
 use Rattle.rules.specs.ListsLaws.{any_append, any-one, any-map, any-mem, mem-any, all_append, all_map, all-mono}
@@ -36,7 +35,7 @@ use Rattle.rules.specs.Action.{on_runs, write, on_loans, query}
 use Rattle.rules.specs.View.{App, app_of, part_of, definition_of}
 use Rattle.rules.specs.Permissions.{built_in, known}
 use Rattle.rules.specs.Refusals.{grantable}
-use Rattle.rules.specs.Answer.{answer}
+use Rattle.rules.specs.Answer.{done, answer}
 use Rattle.rules.specs.DoneLaws.{install-good, install-new, New, grant-grantable}
 use Rattle.state.specs.Tables.{Row, State, app_number, apps_of, app_at, part_at, defined_by, known_from, defined_in}
 use Rattle.state.specs.Tables.{is_resource, view_of}
@@ -254,13 +253,13 @@ module _ (s : State) (ok : TablesOk s) (i : Bool) (m : Manifest) (v : ℕ) (fine
       (λ r h. ap good (install-leaves s ok i m fine new_app new_parts r.app
       (eqb-sym m.app (app_number r) ∙ none-mem (λ r. eqb (app_number r) m.app) h new_app) v)
       ∙ all-mem (good_app s) h ok.good))
-      (unfold all in (and-true _ ∙ ap good (install-makes s ok i m fine new_app new_parts v) ∙ fine))
+      ((and-true _ ∙ ap good (install-makes s ok i m fine new_app new_parts v) ∙ fine))
 
   granted-after-install : all (good_grants after-install) after-install.rows ≡ true
   unfolding next apps_after definitions_after good_grant known view_of
   granted-after-install = all_append (good_grants after-install) s.rows _ ∙ both
       (all-mono (good_grants s) (good_grants after-install) still s.rows ok.granted)
-      (unfold all in refl)
+      (refl)
     where
       still : (r : Row) → good_grants s r ≡ true → good_grants after-install r ≡ true
       still r h = all-mono (good_grant s r.app) (good_grant after-install r.app)
@@ -413,7 +412,7 @@ module _ (s : State) (ok : TablesOk s) where
       (λ r. all (good_grant s r.app) (grants_at b (added p) r).grants) s.rows
       (λ r m e. cond-all (all (good_grant s r.app)) (eqb (app_number r) b) r.grants (added p r.grants)
       (λ t. all_append (good_grant s r.app) r.grants (p ∷ [])
-      ∙ (unfold all in rw (e, its r m (eqb-true (app_number r) b t)))) e) ok.granted)
+      ∙ (rw (e, its r m (eqb-true (app_number r) b t)))) e) ok.granted)
     where
       row-found : (r : Row) → Memᴰ r s.rows → app_number r ≡ b → app_at (apps_of s.rows) b ≡ some r.app
       row-found r m e = unfold app_at in (find-map (λ a. eqb a.number b) (λ r. r.app) s.rows
@@ -461,7 +460,7 @@ other-tables s is ls ok = record {
   granted = ok.granted;
 }
 
-pub tables-ok : (L : Limits) (s : State) (x : Action) (g : Ground) (v : ℕ) → answer L (view_of s) x ≡ Done g v
+pub tables-ok : (L : Limits) (s : State) (x : Action) (g : Ground) (v : ℕ) → answer L (view_of s) x ≡ done g v
     → distinct same_app s.rows ≡ true → TablesOk s → TablesOk (next s x v)
 unfolding next apps_after definitions_after parts_after resources_after instances_after loans_after view_of good_grant
 tables-ok L s (on_apps (install i m)) g v e one ok =

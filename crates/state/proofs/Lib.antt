@@ -9,3 +9,4 @@ pub mod KeepsLoans
 pub mod Keeps
 pub mod StoredLaws
 pub mod RefusalLaws
+pub mod Zeros

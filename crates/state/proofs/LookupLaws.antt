@@ -16,7 +16,6 @@ use Rattle.rules.specs.declared.Part.{Part}
 use Rattle.rules.specs.declared.Instance.{Instance}
 use Rattle.rules.specs.declared.Loan.{Loan}
 use Rattle.rules.specs.declared.Ground.{Ground}
-use Rattle.rules.specs.declared.Answer.TheVariants.{Done}
 use Rattle.rules.specs.Lists.{any, all, keep, find, distinct, is_some, test, map_option}
 use Rattle.rules.specs.ListsLaws.{and_left, and_right, and-true, and-false, or-false, or-true, both, flat, clashing}
 use Rattle.rules.specs.ListsLaws.{any_append, any-map, any-keep, any-cong, any-mono, any-or, any-all, any-mem}
@@ -29,7 +28,7 @@ use Rattle.rules.specs.Action.{grant, revoke, grant_group, revoke_group, start, 
 use Rattle.rules.specs.Action.{on_grants, on_runs, write, on_loans, query}
 use Rattle.rules.specs.ActionLaws.{carries-those, operations-if-any}
 use Rattle.rules.specs.View.{App, app_of, part_of}
-use Rattle.rules.specs.Answer.{answer}
+use Rattle.rules.specs.Answer.{done, answer}
 use Rattle.rules.specs.DoneLaws.{install-good, provided, start-free, start-range, lends_some}
 use Rattle.state.specs.Tables.{Row, State, apps_of, part_at, owned_by, defined_by, run_in, is_to, is_on, is_loan}
 use Rattle.state.specs.Tables.{lent_in}
@@ -133,7 +132,7 @@ run-any is n = go (find (λ i. eqb i.number n) is) refl
     go (some i) e = sym (find-any (λ i. eqb i.number n) is i e)
 
 module _ (L : Limits) (s : State) where
-  pub instances-distinct : (x : Action) (g : Ground) (v : ℕ) → answer L (view_of s) x ≡ Done g v
+  pub instances-distinct : (x : Action) (g : Ground) (v : ℕ) → answer L (view_of s) x ≡ done g v
       → distinct same_instance s.instances ≡ true → distinct same_instance (instances_after s.instances x v) ≡ true
   unfolding instances_after view_of
   instances-distinct (on_apps z) g v e h = h
@@ -149,9 +148,9 @@ module _ (L : Limits) (s : State) where
   abbrev pub in_range : Instance → Bool
   in_range i = leb 1 i.number && leb i.number L.instances
 
-  pub instances-range : (x : Action) (g : Ground) (v : ℕ) → answer L (view_of s) x ≡ Done g v
+  pub instances-range : (x : Action) (g : Ground) (v : ℕ) → answer L (view_of s) x ≡ done g v
       → all in_range s.instances ≡ true → all in_range (instances_after s.instances x v) ≡ true
-  unfolding instances_after all
+  unfolding instances_after
   instances-range (on_apps z) g v e h = h
   instances-range (on_grants z) g v e h = h
   instances-range (on_runs (start c n)) g v e h =
@@ -200,7 +199,7 @@ pub providers-write : (ks : List Part) (rs : List Resource) (p u x : ℕ) → al
 unfolding put
 providers-write ks rs p u x own = all_map (has_provider ks) (put p u x) rs ∙ own
 
-pub providers-stay : (L : Limits) (s : State) (x : Action) (g : Ground) (v : ℕ) → answer L (view_of s) x ≡ Done g v
+pub providers-stay : (L : Limits) (s : State) (x : Action) (g : Ground) (v : ℕ) → answer L (view_of s) x ≡ done g v
     → all (has_provider s.parts) s.resources ≡ true
     → all (has_provider (parts_after s.parts x)) (resources_after s.parts s.resources x) ≡ true
 unfolding resources_after parts_after
@@ -279,7 +278,7 @@ reduced-full keeps ls = ap full_loans (keep-map carries_any (kept keeps) ls)
 
 lent-full : (ls : List Loan) (o p u : ℕ) (r : Receiver) → is_operations o ≡ true → full_loans ls ≡ true
     → full_loans (cond (any (is_loan r p u) ls) (map (widened r p u o) ls) (ls ++ (loan_of r p u o ∷ []))) ≡ true
-unfolding all widened with_operations loan_of carries_any
+unfolding widened with_operations loan_of carries_any
 lent-full ls o p u r w c = go (any (is_loan r p u) ls)
   where
     more : (a b s t : Bool) → a || b ≡ true → (a || s) || (b || t) ≡ true

@@ -10,12 +10,11 @@ use Rattle.rules.specs.declared.Reason.TheVariants.{StateNotValid, MalformedActi
 use Rattle.rules.specs.declared.Reason.TheVariants.{AlreadyThere, NoSuchApp, NoSuchComponent, NoSuchInstance}
 use Rattle.rules.specs.declared.Reason.TheVariants.{NoSuchResource, Undefined, CannotBeGranted, NotPermitted}
 use Rattle.rules.specs.declared.Reason.TheVariants.{NothingToTakeBack, InUse, PartOfTheImage, NoRoom}
-use Rattle.rules.specs.declared.Answer.TheVariants.{Done, Refused}
 use Rattle.rules.specs.Limits.{Limits}
 use Rattle.rules.specs.Action.{Action}
 use Rattle.rules.specs.ListsLaws.{and_left, and_right}
 use Rattle.rules.specs.Record.{action_of}
-use Rattle.rules.specs.Answer.{Line, answer, number_of, ground_number, line_of}
+use Rattle.rules.specs.Answer.{done, refused, Line, answer, number_of, ground_number, line_of}
 use Rattle.state.specs.declared.Device.{Device}
 use Rattle.state.specs.Tables.{State, view_of}
 use Rattle.state.specs.Effects.{after, device}
@@ -24,18 +23,18 @@ use Rattle.state.specs.FormedLaws.{Sized, same-device, same-lent}
 use Rattle.state.specs.Step.{inner_answer, inner_state, step_answer, step_device, step_lent}
 
 -- ---- state and loans
-pub refused-changes-nothing : (s : State) (x : Action) (n : Reason) → after s x (Refused n) ≡ s
+pub refused-changes-nothing : (s : State) (x : Action) (n : Reason) → after s x (refused n) ≡ s
 unfolding after
 refused-changes-nothing s x n = refl
 
 pub refused-leaves-device : (L : Limits) (x : Action) (xs : List Action) (n : Reason)
-    → answer L (view_of (device L xs)) x ≡ Refused n → device L (x ∷ xs) ≡ device L xs
+    → answer L (view_of (device L xs)) x ≡ refused n → device L (x ∷ xs) ≡ device L xs
 unfolding device
 refused-leaves-device L x xs n e = rw e (refused-changes-nothing (device L xs) x n)
 
 -- a state that is not valid is refused
 pub invalid-refused : (d : Device) (lent : List Loan) (action manifest : List ℕ) → valid_stored d lent ≡ false
-    → step_answer d lent action manifest ≡ Refused StateNotValid
+    → step_answer d lent action manifest ≡ refused StateNotValid
 unfolding step_answer
 invalid-refused d lent action manifest e = rw e
 
@@ -45,12 +44,12 @@ pub record Unchanged (d : Device) (lent : List Loan) (action manifest : List ℕ
   pub loans : step_lent d lent action manifest ≡ lent
 
 pub refused-step : (d : Device) (lent : List Loan) (action manifest : List ℕ) (n : Reason) → Sized d
-    → step_answer d lent action manifest ≡ Refused n → Unchanged d lent action manifest
+    → step_answer d lent action manifest ≡ refused n → Unchanged d lent action manifest
 unfolding step_answer step_device step_lent inner_state valid_stored
 refused-step d lent action manifest n s e = go (valid_stored d lent) refl e
   where
     go : (t : Bool) → valid_stored d lent ≡ t
-        → cond t (inner_answer d lent action manifest) (Refused StateNotValid) ≡ Refused n
+        → cond t (inner_answer d lent action manifest) (refused StateNotValid) ≡ refused n
         → Unchanged d lent action manifest
     go false v e = record { device = rw v; loans = rw v }
     go true v e =
@@ -89,7 +88,7 @@ numbers InUse = (omega arith, omega arith)
 numbers PartOfTheImage = (omega arith, omega arith)
 numbers NoRoom = (omega arith, omega arith)
 
-pub refused-line : (n : Reason) → RefusedLine (line_of (Refused n))
+pub refused-line : (n : Reason) → RefusedLine (line_of (refused n))
 unfolding line_of
 refused-line n = record { low = (numbers n).0; high = (numbers n).1; ground = refl; value = refl }
 
@@ -99,13 +98,13 @@ pub record DoneLine (g : Ground) (v : ℕ) (l : Line) : Type 0 where
   pub ground : l.ground ≡ some (ground_number g)
   pub value : l.value ≡ some v
 
-pub done-line : (g : Ground) (v : ℕ) → DoneLine g v (line_of (Done g v))
+pub done-line : (g : Ground) (v : ℕ) → DoneLine g v (line_of (done g v))
 unfolding line_of
 done-line g v = record { number = refl; ground = refl; value = refl }
 
 -- no refused line is a done line, whatever its value
-pub never-alike : (n : Reason) (g : Ground) (v : ℕ) → line_of (Refused n) ≡ line_of (Done g v) → ⊥
+pub never-alike : (n : Reason) (g : Ground) (v : ℕ) → line_of (refused n) ≡ line_of (done g v) → ⊥
 never-alike n g v e =
     let low = (refused-line n).low in
-    let same : (line_of (Refused n)).number ≡ 0 = ap (λ (l : Line). l.number) e ∙ (done-line g v).number in
+    let same : (line_of (refused n)).number ≡ 0 = ap (λ (l : Line). l.number) e ∙ (done-line g v).number in
     omega arith

@@ -26,7 +26,6 @@ use Rattle.state.specs.Stored.{app_pads, is_zero_app, formed, valid_stored}
 
 -- ---- a list in its places
 all_same : {A : Type 0} (f : A → Bool) (z : A) → f z ≡ true → (k : ℕ) → all f (replicate k z) ≡ true
-unfolding all
 all_same f z e zero = refl
 all_same f z e (suc k) = both e (all_same f z e k)
 
@@ -76,7 +75,6 @@ app-pads r u g k =
     (both (padded-pads 0 32 r.grants is_zero refl g) (padded-pads 0 15 r.groups is_zero refl k))
 
 zero-app : is_zero_app zero_app ≡ true
-unfolding all
 zero-app = refl
 
 pub fits-formed : (s : State) → Fits large s → formed (device_of s) (lent_of 128 s) ≡ true
@@ -135,7 +133,7 @@ high true n = omega arith
 high false n = omega arith
 
 ones-digits : (f : ℕ → Bool) (n k : ℕ) → ones (digits_of f n k) ≡ length (keep f (from n k))
-unfolding keep from digits_of
+unfolding from digits_of
 ones-digits f n zero = unfold ones in refl
 ones-digits f n (suc k) =
     ones_step (bit (f n) + 2 * digits_of f (suc n) k)

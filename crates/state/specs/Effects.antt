@@ -1,13 +1,11 @@
 -- What an accepted action makes of each table, and that a refusal changes nothing.
 -- Document 01, "Conditions and effects".
-use Rattle.std.specs.Prelude.{ℕ, Bool, not, ◌&&◌, ◌||◌, cond, List, [], ◌∷◌, ◌++◌, map, eqb}
+use Rattle.std.specs.Prelude.{ℕ, Bool, not, ◌&&◌, ◌||◌, cond, List, [], ◌∷◌, ◌++◌, map, eqb, Ok, Err}
 use Rattle.manifest.specs.declared.Resource.{Resource}
 use Rattle.rules.specs.declared.Definition.{Definition}
 use Rattle.rules.specs.declared.Part.{Part}
 use Rattle.rules.specs.declared.Instance.{Instance}
 use Rattle.rules.specs.declared.Loan.{Loan}
-use Rattle.rules.specs.declared.Answer.{Answer}
-use Rattle.rules.specs.declared.Answer.TheVariants.{Done, Refused}
 use Rattle.rules.specs.Lists.{any, keep}
 use Rattle.rules.specs.Limits.{Limits}
 use Rattle.rules.specs.Action.{Receiver, an_instance, an_app, receiver_kind, receiver_number, Op, reading, writing}
@@ -15,7 +13,7 @@ use Rattle.rules.specs.Action.{carries}
 use Rattle.rules.specs.Action.{operations_of, install, uninstall, grant, revoke, grant_group, revoke_group, start, stop}
 use Rattle.rules.specs.Action.{lend, withdraw, Action, on_apps, on_grants, on_runs, write, on_loans, query}
 use Rattle.rules.specs.View.{app_of, part_of, definition_of}
-use Rattle.rules.specs.Answer.{answer}
+use Rattle.rules.specs.Answer.{Answer, answer}
 use Rattle.state.specs.Tables.{Row, State, fresh, app_number, owned_by, defined_by, is_resource, is_to, is_on, is_loan}
 use Rattle.state.specs.Tables.{view_of}
 
@@ -165,8 +163,8 @@ next s x v =
 
 -- a refusal leaves all unchanged
 unfoldable pub after : State → Action → Answer → State
-after s x (Refused n) = s
-after s x (Done g v) = next s x v
+after s x (Err n) = s
+after s x (Ok d) = next s x d.value
 
 -- a fresh device after a sequence of actions, newest first
 unfoldable pub device : Limits → List Action → State

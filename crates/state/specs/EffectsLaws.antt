@@ -37,7 +37,7 @@ carries-some x e = sym (operations-if-any (λ op. carries op x.operations))
 
 pub reduce-keep : (f : Loan → Bool) (ls : List Loan) → all (λ x. is_operations x.operations) ls ≡ true
     → reduce (λ x op. f x) ls ≡ keep f ls
-unfolding reduce keep all
+unfolding reduce
 reduce-keep f [] e = refl
 reduce-keep f (x ∷ ls) e = go (f x) refl (reduce-keep f ls (and_right (is_operations x.operations) _ e))
   where

@@ -26,7 +26,6 @@ module _ {A : Type 0} (z : A) (is_empty : A → Bool) where
   Empties = (x : A) → is_empty x ≡ true → x ≡ z
 
   all-empty : Empties → (l : List A) → all is_empty l ≡ true → l ≡ replicate (length l) z
-  unfolding all
   all-empty h [] e = refl
   all-empty h (x ∷ l) e =
       let first : x ≡ z = h x (and_left (is_empty x) _ e) in
@@ -132,53 +131,58 @@ zero-loan x e =
 
 -- ---- apps, whose lists are arrays too
 unfoldable pub is_sized : App → Bool
-is_sized a = eqb (length a.uses) 32 && (eqb (length a.grants) 32 && eqb (length a.groups) 15)
+is_sized a = eqb (length a.uses.entries) 32 && (eqb (length a.grants.entries) 32 && eqb (length a.groups.entries) 15)
 
 -- an app is the one that its row gives
 app-same : (a : App) → app_pads a ≡ true → is_sized a ≡ true → app_from (row_of a) ≡ a
 unfolding is_sized
 app-same a e s =
-    let f = and_right (pads is_zero 32 a.uses a.used) _ e in
-    let t = and_right (eqb (length a.uses) 32) _ s in
-    let uses = and_left (pads is_zero 32 a.uses a.used) _ e in
-    let grants = and_left (pads is_zero 32 a.grants a.granted) _ f in
-    let groups = and_right (pads is_zero 32 a.grants a.granted) _ f in
-    let u = eqb-true (length a.uses) 32 (and_left (eqb (length a.uses) 32) _ s) in
-    let g = eqb-true (length a.grants) 32 (and_left (eqb (length a.grants) 32) _ t) in
-    let r = eqb-true (length a.groups) 15 (and_right (eqb (length a.grants) 32) _ t) in
+    let f = and_right (pads is_zero 32 a.uses.entries a.uses.count) _ e in
+    let t = and_right (eqb (length a.uses.entries) 32) _ s in
+    let uses = and_left (pads is_zero 32 a.uses.entries a.uses.count) _ e in
+    let grants = and_left (pads is_zero 32 a.grants.entries a.grants.count) _ f in
+    let groups = and_right (pads is_zero 32 a.grants.entries a.grants.count) _ f in
+    let u = eqb-true (length a.uses.entries) 32 (and_left (eqb (length a.uses.entries) 32) _ s) in
+    let g = eqb-true (length a.grants.entries) 32 (and_left (eqb (length a.grants.entries) 32) _ t) in
+    let r = eqb-true (length a.groups.entries) 15 (and_right (eqb (length a.grants.entries) 32) _ t) in
     λ j. record {
       number = a.number;
       signer = a.signer;
       image = a.image;
-      uses = padded-taken 0 is_zero zero 32 a.uses a.used u uses j;
-      used = count-taken 0 is_zero 32 a.uses a.used u uses j;
-      grants = padded-taken 0 is_zero zero 32 a.grants a.granted g grants j;
-      granted = count-taken 0 is_zero 32 a.grants a.granted g grants j;
-      groups = padded-taken 0 is_zero zero 15 a.groups a.grouped r groups j;
-      grouped = count-taken 0 is_zero 15 a.groups a.grouped r groups j;
+      uses = record {
+        entries = padded-taken 0 is_zero zero 32 a.uses.entries a.uses.count u uses j;
+        count = count-taken 0 is_zero 32 a.uses.entries a.uses.count u uses j;
+      };
+      grants = record {
+        entries = padded-taken 0 is_zero zero 32 a.grants.entries a.grants.count g grants j;
+        count = count-taken 0 is_zero 32 a.grants.entries a.grants.count g grants j;
+      };
+      groups = record {
+        entries = padded-taken 0 is_zero zero 15 a.groups.entries a.groups.count r groups j;
+        count = count-taken 0 is_zero 15 a.groups.entries a.groups.count r groups j;
+      };
     }
 
 zero-app : (a : App) → is_zero_app a && is_sized a ≡ true → a ≡ zero_app
 zero-app a e =
     let z = and_left (is_zero_app a) _ e in
-    let four = (is_zero a.number && is_zero a.signer) && (not a.image && is_zero a.used) in
+    let four = (is_zero a.number && is_zero a.signer) && (not a.image && is_zero a.uses.count) in
     let l = and_left four _ z in
     let r = and_right four _ z in
-    let two = is_zero a.granted && is_zero a.grouped in
+    let two = is_zero a.grants.count && is_zero a.groups.count in
     let m = and_left (is_zero a.number && is_zero a.signer) _ l in
     let n = and_right (is_zero a.number && is_zero a.signer) _ l in
     let o = and_left two _ r in
     let number = zero a.number (and_left (is_zero a.number) _ m) in
     let signer = zero a.signer (and_right (is_zero a.number) _ m) in
     let image = not-true a.image (and_left (not a.image) _ n) in
-    let used = zero a.used (and_right (not a.image) _ n) in
-    let granted = zero a.granted (and_left (is_zero a.granted) _ o) in
-    let grouped = zero a.grouped (and_right (is_zero a.granted) _ o) in
+    let used = zero a.uses.count (and_right (not a.image) _ n) in
+    let granted = zero a.grants.count (and_left (is_zero a.grants.count) _ o) in
+    let grouped = zero a.groups.count (and_right (is_zero a.grants.count) _ o) in
     sym (app-same a (and_right two _ r) (and_right (is_zero_app a) _ e))
     ∙ rw (number, signer, image, used, granted, grouped)
 
 apps-same : (l : List App) → all app_pads l ≡ true → all is_sized l ≡ true → map app_from (map row_of l) ≡ l
-unfolding all
 apps-same [] e s = refl
 apps-same (a ∷ l) e s =
     let first = app-same a (and_left (app_pads a) _ e) (and_left (is_sized a) _ s) in
@@ -193,7 +197,7 @@ pub record Sized (d : Device) : Type 0 where
   pub definitions : length d.definitions.entries ≡ 256
   pub parts : length d.parts.entries ≡ 64
   pub resources : length d.resources.entries ≡ 128
-  pub instances : length d.instances.entries ≡ 64
+  pub instances : length d.instances.list.entries ≡ 64
 
 -- the tests of `formed`
 record Formed (d : Device) (lent : List Loan) : Type 0 where
@@ -202,8 +206,8 @@ record Formed (d : Device) (lent : List Loan) : Type 0 where
   definitions : pads is_zero_definition 256 d.definitions.entries d.definitions.count ≡ true
   parts : pads is_zero_part 64 d.parts.entries d.parts.count ≡ true
   resources : pads is_zero_resource 128 d.resources.entries d.resources.count ≡ true
-  instances : pads is_zero_instance 64 d.instances.entries d.instances.count ≡ true
-  running : d.instances.running ≡ mask_of (take d.instances.count d.instances.entries)
+  instances : pads is_zero_instance 64 d.instances.list.entries d.instances.list.count ≡ true
+  running : d.instances.running ≡ mask_of (take d.instances.list.count d.instances.list.entries)
   loans : pads is_zero_loan (length lent) lent d.lent ≡ true
 
 formed-parts : (d : Device) (lent : List Loan) → formed d lent ≡ true → Formed d lent
@@ -214,8 +218,8 @@ formed-parts d lent e =
     let ds = pads is_zero_definition 256 d.definitions.entries d.definitions.count in
     let ks = pads is_zero_part 64 d.parts.entries d.parts.count in
     let rs = pads is_zero_resource 128 d.resources.entries d.resources.count in
-    let is = pads is_zero_instance 64 d.instances.entries d.instances.count in
-    let mask = mask_of (take d.instances.count d.instances.entries) in
+    let is = pads is_zero_instance 64 d.instances.list.entries d.instances.list.count in
+    let mask = mask_of (take d.instances.list.count d.instances.list.entries) in
     let h₁ = and_left (bs && ls) _ e in
     let h₂ = and_right (bs && ls) _ e in
     let h₃ = and_right ds _ h₂ in
@@ -275,10 +279,12 @@ same-device d lent s e =
             s.resources f.resources j;
       };
       instances = record {
-        entries = padded-taken zero_instance is_zero_instance zero-instance 64 d.instances.entries
-            d.instances.count s.instances f.instances j;
-        count = count-taken zero_instance is_zero_instance 64 d.instances.entries d.instances.count
-            s.instances f.instances j;
+        list = record {
+          entries = padded-taken zero_instance is_zero_instance zero-instance 64 d.instances.list.entries
+              d.instances.list.count s.instances f.instances j;
+          count = count-taken zero_instance is_zero_instance 64 d.instances.list.entries d.instances.list.count
+              s.instances f.instances j;
+        };
         running = sym f.running j;
       };
       lent = count-taken zero_loan is_zero_loan (length lent) lent d.lent refl f.loans j;

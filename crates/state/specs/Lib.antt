@@ -1,3 +1,4 @@
+pub mod Listed
 pub mod Tables
 pub mod Effects
 pub mod EffectsLaws
@@ -7,3 +8,4 @@ pub mod Capacity
 pub mod Stored
 pub mod FormedLaws
 pub mod Step
+pub mod Unique

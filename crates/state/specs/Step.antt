@@ -3,11 +3,9 @@
 use Rattle.std.specs.Prelude.{ℕ, cond, List}
 use Rattle.rules.specs.declared.Loan.{Loan}
 use Rattle.rules.specs.declared.Reason.TheVariants.{StateNotValid}
-use Rattle.rules.specs.declared.Answer.{Answer}
-use Rattle.rules.specs.declared.Answer.TheVariants.{Refused}
 use Rattle.rules.specs.Limits.{large}
 use Rattle.rules.specs.Record.{action_of}
-use Rattle.rules.specs.Answer.{answer}
+use Rattle.rules.specs.Answer.{Answer, refused, answer}
 use Rattle.state.specs.declared.Device.{Device}
 use Rattle.state.specs.Tables.{State, view_of}
 use Rattle.state.specs.Effects.{after}
@@ -22,7 +20,7 @@ module _ (d : Device) (lent : List Loan) (action manifest : List ℕ) where
   inner_state = after (model_of d lent) (action_of action manifest) inner_answer
 
   unfoldable pub step_answer : Answer
-  step_answer = cond (valid_stored d lent) inner_answer (Refused StateNotValid)
+  step_answer = cond (valid_stored d lent) inner_answer (refused StateNotValid)
 
   unfoldable pub step_device : Device
   step_device = cond (valid_stored d lent) (device_of inner_state) d

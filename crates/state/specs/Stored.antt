@@ -1,7 +1,9 @@
 -- How the device's arrays and the lent table hold the lists: document 01, "Conditions and effects" ("Places past the
 -- end are zero") and "A valid state" ("unused places are zero, the lent table has 128 records").
-use Rattle.std.specs.Prelude.{ℕ, zero, suc, ◌+◌, ◌-◌, ◌*◌, Bool, false, not, ◌&&◌, List, ◌++◌, map, length, take, drop}
-use Rattle.std.specs.Prelude.{replicate, eqb, leb}
+use Rattle.std.specs.Prelude.{ℕ, zero, suc, ◌+◌, ◌*◌, Bool, false, not, ◌&&◌, List, map, length, take, drop}
+use Rattle.std.specs.Prelude.{[], eqb, leb}
+pub use Rattle.state.specs.Listed.{padded}
+use Rattle.state.specs.Listed.{table_of, list_in}
 pub use Rattle.manifest.specs.Verdict.{zero_define, zero_component, zero_resource}
 use Rattle.manifest.specs.declared.Component.{Component}
 use Rattle.manifest.specs.declared.Resource.{Resource}
@@ -43,12 +45,9 @@ zero_app =
       number = 0;
       signer = 0;
       image = false;
-      uses = replicate 32 0;
-      used = 0;
-      grants = replicate 32 0;
-      granted = 0;
-      groups = replicate 15 0;
-      grouped = 0;
+      uses = table_of 0 32 [];
+      grants = table_of 0 32 [];
+      groups = table_of 0 15 [];
     }
 
 -- ---- the running numbers as one number: the digit of place n - 1, from the lowest, says that instance n runs
@@ -72,53 +71,45 @@ row_of a =
             number = a.number;
             signer = a.signer;
             image = a.image;
-            uses = take a.used a.uses;
+            uses = list_in a.uses;
           };
-      grants = take a.granted a.grants;
-      groups = take a.grouped a.groups;
+      grants = list_in a.grants;
+      groups = list_in a.groups;
     }
 
 unfoldable pub model_of : Device → List Loan → State
 model_of d lent =
     record {
-      rows = map row_of (take d.apps.count d.apps.entries);
-      definitions = take d.definitions.count d.definitions.entries;
-      parts = take d.parts.count d.parts.entries;
-      resources = take d.resources.count d.resources.entries;
-      instances = take d.instances.count d.instances.entries;
+      rows = map row_of (list_in d.apps);
+      definitions = list_in d.definitions;
+      parts = list_in d.parts;
+      resources = list_in d.resources;
+      instances = list_in d.instances.list;
       loans = take d.lent lent;
     }
 
 -- ---- the tables that hold the lists
--- a list in n places, the ones past its end zero
-abbrev pub padded : {A : Type 0} → A → ℕ → List A → List A
-padded z n l = l ++ replicate (n - length l) z
-
 abbrev pub app_from : Row → App
 app_from r =
     record {
       number = r.app.number;
       signer = r.app.signer;
       image = r.app.image;
-      uses = padded 0 32 r.app.uses;
-      used = length r.app.uses;
-      grants = padded 0 32 r.grants;
-      granted = length r.grants;
-      groups = padded 0 15 r.groups;
-      grouped = length r.groups;
+      uses = table_of 0 32 r.app.uses;
+      grants = table_of 0 32 r.grants;
+      groups = table_of 0 15 r.groups;
     }
 
 unfoldable pub device_of : State → Device
 device_of s =
     record {
       apps = record { entries = padded zero_app 16 (map app_from s.rows); count = length s.rows };
-      definitions = record { entries = padded zero_definition 256 s.definitions; count = length s.definitions };
-      parts = record { entries = padded zero_part 64 s.parts; count = length s.parts };
-      resources = record { entries = padded zero_resource 128 s.resources; count = length s.resources };
+      definitions = table_of zero_definition 256 s.definitions;
+      parts = table_of zero_part 64 s.parts;
+      resources = table_of zero_resource 128 s.resources;
       instances =
           record {
-            entries = padded zero_instance 64 s.instances;
-            count = length s.instances;
+            list = table_of zero_instance 64 s.instances;
             running = mask_of s.instances;
           };
       lent = length s.loans;
@@ -162,13 +153,13 @@ pads is_empty n entries count = leb count n && all is_empty (drop count entries)
 -- an app's three lists
 abbrev pub app_pads : App → Bool
 app_pads a =
-    pads is_zero 32 a.uses a.used
-    && (pads is_zero 32 a.grants a.granted && pads is_zero 15 a.groups a.grouped)
+    pads is_zero 32 a.uses.entries a.uses.count
+    && (pads is_zero 32 a.grants.entries a.grants.count && pads is_zero 15 a.groups.entries a.groups.count)
 
 abbrev pub is_zero_app : App → Bool
 is_zero_app a =
-    ((is_zero a.number && is_zero a.signer) && (not a.image && is_zero a.used))
-    && ((is_zero a.granted && is_zero a.grouped) && app_pads a)
+    ((is_zero a.number && is_zero a.signer) && (not a.image && is_zero a.uses.count))
+    && ((is_zero a.grants.count && is_zero a.groups.count) && app_pads a)
 
 -- no count is past its array, unused places are zero, and the running numbers are those of the list
 unfoldable pub formed : Device → List Loan → Bool
@@ -178,8 +169,8 @@ formed d lent =
     && (pads is_zero_definition 256 d.definitions.entries d.definitions.count
     && (pads is_zero_part 64 d.parts.entries d.parts.count
     && (pads is_zero_resource 128 d.resources.entries d.resources.count
-    && ((pads is_zero_instance 64 d.instances.entries d.instances.count
-    && eqb d.instances.running (mask_of (take d.instances.count d.instances.entries)))
+    && ((pads is_zero_instance 64 d.instances.list.entries d.instances.list.count
+    && eqb d.instances.running (mask_of (take d.instances.list.count d.instances.list.entries)))
     && pads is_zero_loan (length lent) lent d.lent))))
 
 -- the lent table has 128 records, all is stored as it has to be, and the lists are valid

@@ -24,16 +24,13 @@ pub record Squeezed {A : Type 0} (f : A → Bool) (l : List A) (b i k : ℕ) (e 
 
 module _ {A : Type 0} (f : A → Bool) (l : List A) (i : ℕ) (d : A) (h : i < length l) where
   keep-more : f (get_or l i d) ≡ true → keep f (take (i + 1) l) ≡ keep f (take i l) ++ (get_or l i d ∷ [])
-  unfolding keep
   keep-more e = rw (add-one i, take-suc l i d h, keep_append f (take i l) (get_or l i d ∷ []), e)
 
   keep_same : f (get_or l i d) ≡ false → keep f (take (i + 1) l) ≡ keep f (take i l)
-  unfolding keep
   keep_same e = rw (add-one i, take-suc l i d h, keep_append f (take i l) (get_or l i d ∷ []), e, append-nil)
 
 module _ {A : Type 0} {f : A → Bool} {l : List A} {b : ℕ} where
   pub squeezed-begin : {k : ℕ} → Bound l k b → Squeezed f l b 0 0 l
-  unfolding keep
   squeezed-begin h =
       record {
         room = h.room;

@@ -1,8 +1,8 @@
 -- What a place says of the list: the first entry that passes stands there, or none passes.
 use Prim.Native.Nat.{ℕ, suc, ◌+◌, ◌-◌, ◌≤◌, ◌<◌, min}
 use Rattle.std.proofs.Math.Path.{◌≡◌, refl}
-use Rattle.std.proofs.Common.{ap, ◌∙◌, length-take, get_or-take}
-use Rattle.std.specs.Prelude.{Bool, ◌||◌, length, take, get_or}
+use Rattle.std.proofs.Common.{sym, ap, ◌∙◌, length-take, get_or-take}
+use Rattle.std.specs.Prelude.{Bool, length, take, get_or}
 use Rattle.std.proofs.Math.Bool.{true, false, cond}
 use mathlib.Core.List.{List, [], ◌∷◌}
 use Rattle.std.proofs.Math.Option.{none, some}
@@ -10,37 +10,27 @@ use native.Mathlib.Omega.{arith}
 use Rattle.std.proofs.Math.Nat.{sub-zero}
 use Rattle.rules.specs.Lists.{any, find}
 use Rattle.rules.specs.ListsLaws.{find-any}
-use Rattle.tables.specs.declared.Place.TheVariants.{At, Nothing}
-use Rattle.tables.specs.Finding.{place_from, place_of, is_at}
+use Rattle.std.specs.List.{position_from}
+use Rattle.std.specs.Prelude.{Some, None}
+use Rattle.std.proofs.lemmas.Iterator.Adapters.{position_from-zero}
+use Rattle.tables.specs.Finding.{place_of, first_of}
+use Rattle.tables.specs.Looking.{option_of}
+use Rattle.tables.specs.OptionLaws.{option-some, option_none}
 
 module _ {A : Type 0} (f : A → Bool) where
-  nowhere : (i : ℕ) (l : List A) → place_from f i l ≡ Nothing → find f l ≡ none
-  unfolding place_from find
+  nowhere : (i : ℕ) (l : List A) → position_from f i l ≡ None → find f l ≡ none
+  unfolding find
   nowhere i [] e = refl
   nowhere i (x ∷ l) e = go (f x) (nowhere (i + 1) l) e
     where
-      go : (t : Bool) → (place_from f (i + 1) l ≡ Nothing → find f l ≡ none)
-          → cond t (At i) (place_from f (i + 1) l) ≡ Nothing → cond t (some x) (find f l) ≡ none
+      go : (t : Bool) → (position_from f (i + 1) l ≡ None → find f l ≡ none)
+          → cond t (Some i) (position_from f (i + 1) l) ≡ None → cond t (some x) (find f l) ≡ none
       go true h e = absurd (let z : ◌≡◌ {A = ℕ} 0 1 = cc in omega arith)
       go false h e = h e
 
-  somewhere : (i : ℕ) (l : List A) → is_at (place_from f i l) ≡ any f l
-  unfolding place_from
-  somewhere i [] = refl
-  somewhere i (x ∷ l) = go (f x) (somewhere (i + 1) l)
-    where
-      go : (t : Bool) → is_at (place_from f (i + 1) l) ≡ any f l
-          → is_at (cond t (At i) (place_from f (i + 1) l)) ≡ t || any f l
-      go true h = refl
-      go false h = h
-
-  -- a place is found exactly if some entry passes
-  pub at-if-any : (l : List A) → is_at (place_of f l) ≡ any f l
-  at-if-any l = somewhere 0 l
-
   -- no entry passes
-  pub not_found : (l : List A) → place_of f l ≡ Nothing → find f l ≡ none
-  not_found l e = nowhere 0 l e
+  pub not_found : (l : List A) → place_of f l ≡ None → find f l ≡ none
+  not_found l e = nowhere 0 l (sym (position_from-zero f l) ∙ e)
 
 module _ {A : Type 0} (f : A → Bool) (d : A) where
   record There (i : ℕ) (l : List A) (j : ℕ) : Type 0 where
@@ -49,13 +39,13 @@ module _ {A : Type 0} (f : A → Bool) (d : A) where
     pub hit : f (get_or l (j - i) d) ≡ true
     pub same : find f l ≡ some (get_or l (j - i) d)
 
-  there : (i : ℕ) (l : List A) (j : ℕ) → place_from f i l ≡ At j → There i l j
-  unfolding place_from find
+  there : (i : ℕ) (l : List A) (j : ℕ) → position_from f i l ≡ Some j → There i l j
+  unfolding find
   there i [] j e = absurd (let z : ◌≡◌ {A = ℕ} 0 1 = cc in omega arith)
   there i (x ∷ l) j e = go (f x) refl (there (i + 1) l j) e
     where
-      go : (t : Bool) → f x ≡ t → (place_from f (i + 1) l ≡ At j → There (i + 1) l j)
-          → cond t (At i) (place_from f (i + 1) l) ≡ At j → There i (x ∷ l) j
+      go : (t : Bool) → f x ≡ t → (position_from f (i + 1) l ≡ Some j → There (i + 1) l j)
+          → cond t (Some i) (position_from f (i + 1) l) ≡ Some j → There i (x ∷ l) j
       go true q h e =
           let w : i ≡ j = cc in
           let o : j - i ≡ 0 = omega arith in
@@ -78,9 +68,9 @@ module _ {A : Type 0} (f : A → Bool) (d : A) where
     pub same : find f (take k e) ≡ some (get_or e j d)
     pub passes : any f (take k e) ≡ true
 
-  pub found : (e : List A) (k j : ℕ) → place_of f (take k e) ≡ At j → Found e k j
+  pub found : (e : List A) (k j : ℕ) → place_of f (take k e) ≡ Some j → Found e k j
   found e k j h =
-      let r = there 0 (take k e) j h in
+      let r = there 0 (take k e) j (sym (position_from-zero f (take k e)) ∙ h) in
       let l : length (take k e) ≡ min k (length e) = length-take k e in
       let b : j < k = omega (arith, r.high) in
       let g : get_or (take k e) (j - 0) d ≡ get_or e j d = rw (sub-zero j) (get_or-take k e j d b) in
@@ -92,3 +82,21 @@ module _ {A : Type 0} (f : A → Bool) (d : A) where
         same = s;
         passes = find-any f (take k e) _ s;
       }
+
+module _ {A : Type 0} (f : A → Bool) where
+  -- the library's search is that of the rules
+  pub first : (l : List A) → first_of f l ≡ option_of (find f l)
+  unfolding find
+  first [] = refl
+  first (x ∷ l) = go (f x) (first l)
+    where
+      go : (t : Bool) → first_of f l ≡ option_of (find f l)
+          → cond t (Some x) (first_of f l) ≡ option_of (cond t (some x) (find f l))
+      go true h = refl
+      go false h = h
+
+  pub first-some : (l : List A) (x : A) → first_of f l ≡ Some x → find f l ≡ some x
+  first-some l x e = option-some (find f l) x (sym (first l) ∙ e)
+
+  pub first_none : (l : List A) → first_of f l ≡ None → find f l ≡ none
+  first_none l e = option_none (find f l) (sym (first l) ∙ e)

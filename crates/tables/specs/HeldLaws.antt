@@ -15,19 +15,17 @@ use Rattle.rules.specs.declared.Instance.{Instance}
 use Rattle.rules.specs.Lists.{all, keep}
 use Rattle.rules.specs.ListsLaws.{and_left, and_right, keep-map}
 use Rattle.state.specs.declared.App.{App}
-use Rattle.state.specs.declared.Apps.{Apps}
+use Rattle.state.specs.Listed.{padded, table_of, appended}
 use Rattle.state.specs.Tables.{Row, app_number, defined_by}
-use Rattle.state.specs.Stored.{app_from, padded, zero_app, zero_definition, zero_part, zero_resource, zero_instance}
+use Rattle.state.specs.Stored.{app_from, zero_app, zero_resource, zero_instance}
 use Rattle.state.specs.Effects.{put, added, taken, grants_at, groups_at, keep_grants}
 use Rattle.tables.specs.declared.Change.TheVariants.{AddGrant, TakeGrant, AddGroup, TakeGroup}
 use Rattle.tables.specs.Held.{apps_table, definitions_table, parts_table, resources_table, instances_table}
 use Rattle.tables.specs.Held.{definitions_in, parts_in, resources_in, instances_in}
 use Rattle.tables.specs.Finding.{is_app}
 use Rattle.tables.specs.RunningLaws.{mask-more, mask-less}
-use Rattle.tables.specs.Changing.{append_app, append_definition, append_part, append_resource, append_instance}
-use Rattle.tables.specs.Changing.{remove_instance, map_first, write_value, with_grants, with_groups}
-use Rattle.tables.specs.Changing.{grants_of, groups_of, add_grant, add_group, changed, changed_at, change_app}
-use Rattle.tables.specs.Changing.{undefined_grants, drop_grants}
+use Rattle.tables.specs.Changing.{append_instance, remove_instance, map_first, mapped, write_value}
+use Rattle.tables.specs.Changing.{changed, changed_at, change_app, undefined_grants, drop_grants}
 
 -- ---- any list in an array
 module _ {A : Type 0} (z : A) (n : ℕ) (l : List A) where
@@ -60,40 +58,16 @@ pub instances-held : (l : List Instance) → instances_in (instances_table l) �
 instances-held l = held _ 64 l
 
 -- ---- one more, where there is room
-pub app-more : (l : List App) (x : App) → length l < 16
-    → append_app (apps_table l) x ≡ apps_table (l ++ (x ∷ []))
-unfolding append_app
-app-more l x h =
-    rw (lt-leb 16 (length l) h)
-    (cc (padded-more zero_app 16 l x h, length_more zero_app 16 l x))
-
-pub definition-more : (l : List Definition) (x : Definition) → length l < 256
-    → append_definition (definitions_table l) x ≡ definitions_table (l ++ (x ∷ []))
-unfolding append_definition
-definition-more l x h =
-    rw (lt-leb 256 (length l) h)
-    (cc (padded-more zero_definition 256 l x h, length_more zero_definition 256 l x))
-
-pub part-more : (l : List Part) (x : Part) → length l < 64
-    → append_part (parts_table l) x ≡ parts_table (l ++ (x ∷ []))
-unfolding append_part
-part-more l x h =
-    rw (lt-leb 64 (length l) h)
-    (cc (padded-more zero_part 64 l x h, length_more zero_part 64 l x))
-
-pub resource-more : (l : List Resource) (x : Resource) → length l < 128
-    → append_resource (resources_table l) x ≡ resources_table (l ++ (x ∷ []))
-unfolding append_resource
-resource-more l x h =
-    rw (lt-leb 128 (length l) h)
-    (cc (padded-more zero_resource 128 l x h, length_more zero_resource 128 l x))
+module _ {A : Type 0} (z : A) (n : ℕ) (l : List A) (x : A) (h : length l < n) where
+  pub entry-more : appended n (table_of z n l) x ≡ table_of z n (l ++ (x ∷ []))
+  unfolding appended
+  entry-more = rw (lt-leb n (length l) h) (cc (padded-more z n l x h, length_more z n l x))
 
 pub instance-more : (l : List Instance) (x : Instance) → length l < 64
     → append_instance (instances_table l) x ≡ instances_table (l ++ (x ∷ []))
 unfolding append_instance
 instance-more l x h =
-    rw (lt-leb 64 (length l) h)
-    (cc (padded-more zero_instance 64 l x h, length_more zero_instance 64 l x, mask-more l x))
+    rw (lt-leb 64 (length l) h) (cc (entry-more zero_instance 64 l x h, mask-more l x))
 
 -- ---- one instance less
 pub instance-less : (l : List Instance) (n : ℕ)
@@ -108,20 +82,16 @@ unfolding write_value
 value_written l p u x = cc (padded-map zero_resource 128 l (put p u x), length-map l (put p u x))
 
 -- ---- apps that hold rows
-abbrev mapped_apps : (App → App) → Apps → Apps
-mapped_apps g t = record { entries = map_first t.count g t.entries; count = t.count }
-
 module _ (g : App → App) (h : Row → Row) where
   same_rows : (f : Row → Bool) → ((r : Row) → f r ≡ true → g (app_from r) ≡ app_from (h r)) → (rs : List Row)
       → all f rs ≡ true → map g (map app_from rs) ≡ map app_from (map h rs)
-  unfolding all
   same_rows f k [] e = refl
   same_rows f k (r ∷ rs) e =
       ap₂ (λ (a : App) (l : List App). a ∷ l) (k r (and_left (f r) (all f rs) e))
       (same_rows f k rs (and_right (f r) (all f rs) e))
 
   apps-mapped : (rs : List Row) → map g (map app_from rs) ≡ map app_from (map h rs)
-      → mapped_apps g (apps_table (map app_from rs)) ≡ apps_table (map app_from (map h rs))
+      → mapped g (apps_table (map app_from rs)) ≡ apps_table (map app_from (map h rs))
   apps-mapped rs e =
       cc (padded-map zero_app 16 (map app_from rs) g, sym (length-map (map app_from rs) g), e)
 
@@ -131,7 +101,6 @@ pub rows-table : (rs : List Row)
 rows-table rs = cc (length-map rs app_from)
 
 always : (rs : List Row) → all (λ r. true) rs ≡ true
-unfolding all
 always [] = refl
 always (r ∷ rs) = always rs
 
@@ -165,11 +134,9 @@ row-groups : Row → List ℕ → Row
 row-groups r l = record { app = r.app; grants = r.grants; groups = l }
 
 grant-one : (m : ℕ) (r : Row) → length r.grants < 32
-    → add_grant m (app_from r) ≡ app_from (row-grants r (added m r.grants))
-unfolding add_grant row-grants
-grant-one m r h =
-    rw (lt-leb 32 (length r.grants) h)
-    (cc (padded-more 0 32 r.grants m h, length_more 0 32 r.grants m))
+    → changed AddGrant m (app_from r) ≡ app_from (row-grants r (added m r.grants))
+unfolding changed row-grants
+grant-one m r h = rw (entry-more 0 32 r.grants m h)
 
 pub grant-added : (rs : List Row) (b m : ℕ) → all (room_for_grant b) rs ≡ true
     → change_app (apps_table (map app_from rs)) b AddGrant m
@@ -180,14 +147,14 @@ grant-added rs b m h =
     (same_rows (changed_at b AddGrant m) (grants_at b (added m)) (room_for_grant b) one rs h)
   where
     go : (r : Row) (t : Bool) → not t || ltb (length r.grants) 32 ≡ true
-        → cond t (add_grant m (app_from r)) (app_from r)
+        → cond t (changed AddGrant m (app_from r)) (app_from r)
         ≡ app_from (row-grants r (cond t (added m r.grants) r.grants))
     go r true e = grant-one m r (ltb-true (length r.grants) 32 e)
     go r false e = unfold row-grants in refl
 
     one : (r : Row) → room_for_grant b r ≡ true → changed_at b AddGrant m (app_from r)
         ≡ app_from (grants_at b (added m) r)
-    one r e = unfold changed_at changed grants_at row-grants in go r (eqb (app_number r) b) e
+    one r e = unfold changed_at grants_at row-grants in go r (eqb (app_number r) b) e
 
 pub grant-taken : (rs : List Row) (b m : ℕ)
     → change_app (apps_table (map app_from rs)) b TakeGrant m
@@ -197,20 +164,18 @@ grant-taken rs b m =
     apps-mapped (changed_at b TakeGrant m) (grants_at b (taken m)) rs
     (same_rows (changed_at b TakeGrant m) (grants_at b (taken m)) (λ r. true) one rs (always rs))
   where
-    go : (r : Row) (t : Bool) → cond t (with_grants (app_from r) (taken m (grants_of (app_from r)))) (app_from r)
+    go : (r : Row) (t : Bool) → cond t (changed TakeGrant m (app_from r)) (app_from r)
         ≡ app_from (row-grants r (cond t (taken m r.grants) r.grants))
-    go r true = unfold row-grants in rw (held 0 32 r.grants)
+    go r true = unfold changed row-grants in rw (held 0 32 r.grants)
     go r false = unfold row-grants in refl
 
     one : (r : Row) → true ≡ true → changed_at b TakeGrant m (app_from r) ≡ app_from (grants_at b (taken m) r)
-    one r e = unfold changed_at changed grants_at row-grants in go r (eqb (app_number r) b)
+    one r e = unfold changed_at grants_at row-grants in go r (eqb (app_number r) b)
 
 group-one : (m : ℕ) (r : Row) → length r.groups < 15
-    → add_group m (app_from r) ≡ app_from (row-groups r (added m r.groups))
-unfolding add_group row-groups
-group-one m r h =
-    rw (lt-leb 15 (length r.groups) h)
-    (cc (padded-more 0 15 r.groups m h, length_more 0 15 r.groups m))
+    → changed AddGroup m (app_from r) ≡ app_from (row-groups r (added m r.groups))
+unfolding changed row-groups
+group-one m r h = rw (entry-more 0 15 r.groups m h)
 
 pub group-added : (rs : List Row) (b m : ℕ) → all (room_for_group b) rs ≡ true
     → change_app (apps_table (map app_from rs)) b AddGroup m
@@ -221,14 +186,14 @@ group-added rs b m h =
     (same_rows (changed_at b AddGroup m) (groups_at b (added m)) (room_for_group b) one rs h)
   where
     go : (r : Row) (t : Bool) → not t || ltb (length r.groups) 15 ≡ true
-        → cond t (add_group m (app_from r)) (app_from r)
+        → cond t (changed AddGroup m (app_from r)) (app_from r)
         ≡ app_from (row-groups r (cond t (added m r.groups) r.groups))
     go r true e = group-one m r (ltb-true (length r.groups) 15 e)
     go r false e = unfold row-groups in refl
 
     one : (r : Row) → room_for_group b r ≡ true → changed_at b AddGroup m (app_from r)
         ≡ app_from (groups_at b (added m) r)
-    one r e = unfold changed_at changed groups_at row-groups in go r (eqb (app_number r) b) e
+    one r e = unfold changed_at groups_at row-groups in go r (eqb (app_number r) b) e
 
 pub group-taken : (rs : List Row) (b m : ℕ)
     → change_app (apps_table (map app_from rs)) b TakeGroup m
@@ -238,10 +203,10 @@ group-taken rs b m =
     apps-mapped (changed_at b TakeGroup m) (groups_at b (taken m)) rs
     (same_rows (changed_at b TakeGroup m) (groups_at b (taken m)) (λ r. true) one rs (always rs))
   where
-    go : (r : Row) (t : Bool) → cond t (with_groups (app_from r) (taken m (groups_of (app_from r)))) (app_from r)
+    go : (r : Row) (t : Bool) → cond t (changed TakeGroup m (app_from r)) (app_from r)
         ≡ app_from (row-groups r (cond t (taken m r.groups) r.groups))
-    go r true = unfold row-groups in rw (held 0 15 r.groups)
+    go r true = unfold changed row-groups in rw (held 0 15 r.groups)
     go r false = unfold row-groups in refl
 
     one : (r : Row) → true ≡ true → changed_at b TakeGroup m (app_from r) ≡ app_from (groups_at b (taken m) r)
-    one r e = unfold changed_at changed groups_at row-groups in go r (eqb (app_number r) b)
+    one r e = unfold changed_at groups_at row-groups in go r (eqb (app_number r) b)

@@ -1,8 +1,10 @@
+pub mod Closures
 pub mod Held
 pub mod Scan
 pub mod Finding
-pub mod FindingLaws
 pub mod Looking
+pub mod OptionLaws
+pub mod FindingLaws
 pub mod LookingLaws
 pub mod Running
 pub mod RunningLaws

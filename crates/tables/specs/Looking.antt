@@ -1,30 +1,28 @@
--- What the code's enums say: a definition in force or none, an operation, and the place of the app of a running
+-- What the code's types say: an option, an operation, and the place of the app of a running
 -- instance. And the view of a device of which only some tables are looked at.
 use Rattle.std.specs.Prelude.{ℕ, ◌&&◌, ◌||◌, cond, List, [], eqb}
-use Rattle.std.proofs.Math.Option.{Option, none, some}
+use Rattle.std.specs.Prelude.{Option, Some, None}
+use Rattle.std.proofs.Math.Option.{Option as Rules, none, some}
 use Rattle.rules.specs.declared.Definition.{Definition}
 use Rattle.rules.specs.declared.Part.{Part}
 use Rattle.rules.specs.declared.Instance.{Instance}
 use Rattle.rules.specs.declared.Known.{Known}
 use Rattle.rules.specs.declared.Hold.{Hold}
 use Rattle.rules.specs.declared.Hold.TheVariants.{Granted, ByGroup, NotGranted, BySigner, ByImage, SignerDiffers}
-use Rattle.rules.specs.Lists.{map_option, or_else}
+use Rattle.rules.specs.Lists.{find, bind, map_option, or_else}
 use Rattle.rules.specs.Action.{Op, reading, writing}
 use Rattle.rules.specs.View.{View, App as RulesApp}
 use Rattle.rules.specs.Permissions.{signature, signature_or_system}
 use Rattle.state.specs.declared.App.{App}
 use Rattle.state.specs.Tables.{Row, part_at, run_in, granted_in, grouped_in, view_of}
-use Rattle.tables.specs.declared.Look.{Look}
-use Rattle.tables.specs.declared.Look.TheVariants.{Found, Undefined}
 use Rattle.tables.specs.declared.Operation.{Operation}
 use Rattle.tables.specs.declared.Operation.TheVariants.{Read, Write}
-use Rattle.tables.specs.declared.Place.{Place}
-use Rattle.tables.specs.declared.Place.TheVariants.{Nothing}
 use Rattle.tables.specs.Finding.{place_of, is_app}
 
-abbrev pub look_of : Option Known → Look
-look_of none = Undefined
-look_of (some k) = Found k
+-- the code's option, for that of the rules
+abbrev pub option_of : {A : Type 0} → Rules A → Option A
+option_of none = None
+option_of (some x) = Some x
 
 abbrev pub op_of : Operation → Op
 op_of Read = reading
@@ -42,12 +40,16 @@ view_by rows definitions parts instances =
       loans = [];
     })
 
--- the place of the app of a component, and of a running instance
-unfoldable pub owner_place : List App → List Part → ℕ → Place
-owner_place apps parts c = or_else Nothing (map_option (λ k. place_of (is_app k.app) apps) (part_at parts c))
+-- the app of a running instance, and its place
+unfoldable pub runner_in : List App → List Part → List Instance → ℕ → Rules App
+runner_in apps parts instances n =
+    bind (run_in instances n) (λ c. bind (part_at parts c) (λ k. find (is_app k.app) apps))
 
-unfoldable pub running_place : List App → List Part → List Instance → ℕ → Place
-running_place apps parts instances n = or_else Nothing (map_option (owner_place apps parts) (run_in instances n))
+unfoldable pub owner_place : List App → List Part → ℕ → Option ℕ
+owner_place apps parts c = or_else None (map_option (λ k. place_of (is_app k.app) apps) (part_at parts c))
+
+unfoldable pub running_place : List App → List Part → List Instance → ℕ → Option ℕ
+running_place apps parts instances n = or_else None (map_option (owner_place apps parts) (run_in instances n))
 
 -- ---- the two halves of the hold rule, for an app that lists the permission
 unfoldable pub hold_dangerous : List Row → (app permission group : ℕ) → Hold

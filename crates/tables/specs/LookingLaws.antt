@@ -1,25 +1,13 @@
--- A look against an option, an app of the code against a row of the rules, and which tables an answer depends on.
-use Rattle.std.specs.Prelude.{ℕ, ◌≡◌, refl, false, ◌&&◌, List, [], map, eqb}
-use Rattle.std.proofs.Common.{◌∙◌, arith}
-use Rattle.std.proofs.Math.Option.{Option, none, some}
-use Rattle.rules.specs.declared.Known.{Known}
+-- An app of the code against a row of the rules, and which tables an answer depends on.
+use Rattle.std.specs.Prelude.{ℕ, ◌≡◌, false, ◌&&◌, List, [], map, eqb}
+use Rattle.std.proofs.Common.{◌∙◌}
+use Rattle.std.proofs.Math.Option.{none, some}
 use Rattle.rules.specs.Lists.{any, mem, find, map_option}
 use Rattle.rules.specs.ListsLaws.{any-map, find-map, map-map}
 use Rattle.state.specs.declared.App.{App}
 use Rattle.state.specs.Stored.{row_of}
 use Rattle.state.specs.Tables.{app_number, apps_of, app_at, granted_in, grouped_in}
-use Rattle.tables.specs.declared.Look.TheVariants.{Found, Undefined}
 use Rattle.tables.specs.Finding.{is_app}
-use Rattle.tables.specs.Looking.{look_of}
-
--- ---- a look
-pub look-found : (o : Option Known) (k : Known) → look_of o ≡ Found k → o ≡ some k
-look-found none k e = absurd (let z : ◌≡◌ {A = ℕ} 0 1 = cc in omega arith)
-look-found (some x) k e = cc
-
-pub look_none : (o : Option Known) → look_of o ≡ Undefined → o ≡ none
-look_none none e = refl
-look_none (some x) e = absurd (let z : ◌≡◌ {A = ℕ} 0 1 = cc in omega arith)
 
 -- ---- an app
 -- what is read past the end of an array of apps
@@ -29,12 +17,9 @@ blank_app =
       number = 0;
       signer = 0;
       image = false;
-      uses = [];
-      used = 0;
-      grants = [];
-      granted = 0;
-      groups = [];
-      grouped = 0;
+      uses = record { entries = []; count = 0 };
+      grants = record { entries = []; count = 0 };
+      groups = record { entries = []; count = 0 };
     }
 
 same-search : (l : List App) (n : ℕ) → app_at (apps_of (map row_of l)) n

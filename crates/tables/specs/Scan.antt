@@ -5,9 +5,6 @@ use Rattle.std.proofs.Math.Path.{sym}
 use Rattle.std.proofs.Common.{◌∙◌, add-one, arith, ltb-true, ltb-false, drop_of_length-le, length-take-le, take_all}
 use Rattle.std.proofs.Math.Seq.{slice, slice-cons}
 use Rattle.rules.specs.Lists.{any, all, distinct}
-use Rattle.tables.specs.declared.Place.{Place}
-use Rattle.tables.specs.declared.Place.TheVariants.{At, Nothing}
-use Rattle.tables.specs.Finding.{place_from, place_of}
 
 -- ---- the bound: the first b places are the list that the count k holds, and the others the rest
 pub record Bound {A : Type 0} (l : List A) (k b : ℕ) : Type 0 where
@@ -49,15 +46,12 @@ module _ {A : Type 0} {f : A → Bool} {l : List A} {b : ℕ} where
 
 module _ {A : Type 0} {f : A → Bool} {l : List A} {b : ℕ} {whole : Bool} {i : ℕ} (s : Each f l b whole i) where
   pub each_next : i < b → (d : A) → f (get_or l i d) ≡ true → Each f l b whole (i + 1)
-  unfolding all
   each_next h d e = record { room = s.room; inside = omega arith; same = s.same ∙ rw (step l b i d h s.room, e) }
 
   pub each-fails : i < b → (d : A) → f (get_or l i d) ≡ false → false ≡ whole
-  unfolding all
   each-fails h d e = sym (s.same ∙ rw (step l b i d h s.room, e))
 
   pub each-ends : b ≤ i → true ≡ whole
-  unfolding all
   each-ends h = sym (s.same ∙ rw (stop l b i h s.room))
 
 -- ---- some entry passes
@@ -85,29 +79,6 @@ module _ {A : Type 0} {f : A → Bool} {l : List A} {b : ℕ} {whole : Bool} {i 
 
   pub some-ends : b ≤ i → false ≡ whole
   some-ends h = sym (s.same ∙ rw (stop l b i h s.room))
-
--- ---- the place of the first that passes
-pub record Placed {A : Type 0} (f : A → Bool) (l : List A) (b : ℕ) (whole : Place) (i : ℕ) : Type 0 where
-  pub room : b ≤ length l
-  pub inside : i ≤ b
-  pub same : whole ≡ place_from f i (slice i b l)
-
-module _ {A : Type 0} {f : A → Bool} {l : List A} {b : ℕ} where
-  pub placed-begin : {k : ℕ} → Bound l k b → Placed f l b (place_of f (take k l)) 0
-  placed-begin h = record { room = h.room; inside = omega arith; same = rw h.same }
-
-module _ {A : Type 0} {f : A → Bool} {l : List A} {b : ℕ} {whole : Place} {i : ℕ} (s : Placed f l b whole i) where
-  pub placed-next : i < b → (d : A) → f (get_or l i d) ≡ false → Placed f l b whole (i + 1)
-  unfolding place_from
-  placed-next h d e = record { room = s.room; inside = omega arith; same = s.same ∙ rw (step l b i d h s.room, e) }
-
-  pub placed-hits : i < b → (d : A) → f (get_or l i d) ≡ true → At i ≡ whole
-  unfolding place_from
-  placed-hits h d e = sym (s.same ∙ rw (step l b i d h s.room, e))
-
-  pub placed-ends : b ≤ i → Nothing ≡ whole
-  unfolding place_from
-  placed-ends h = sym (s.same ∙ rw (stop l b i h s.room))
 
 -- ---- no entry is the same as a later one; the inner loop answers `any (same x)` for the later ones
 pub record Pairs {A : Type 0} (r : A → A → Bool) (l : List A) (b : ℕ) (whole : Bool) (i : ℕ) : Type 0 where

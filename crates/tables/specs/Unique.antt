@@ -1,9 +1,8 @@
 -- No two differing results meet the contract of a public function: each contract is one equation for the whole result.
 -- Document 01, "What the contracts have to say".
-use Rattle.std.specs.Prelude.{ℕ, ◌≡◌, Bool, not, List, [], take, eqb}
+use Rattle.std.specs.Prelude.{ℕ, ◌≡◌, Bool, not, List, Option, [], take, eqb}
 use Rattle.std.specs.Int.Count.{ones}
 use Rattle.manifest.specs.Unique.{only_one}
-use Rattle.manifest.specs.declared.Resource.{Resource}
 use Rattle.rules.specs.declared.Definition.{Definition}
 use Rattle.rules.specs.declared.Part.{Part}
 use Rattle.rules.specs.declared.Instance.{Instance}
@@ -11,13 +10,9 @@ use Rattle.rules.specs.declared.Known.{Known}
 use Rattle.rules.specs.declared.Hold.{Hold}
 use Rattle.rules.specs.declared.Ground.{Ground}
 use Rattle.state.specs.declared.App.{App}
-use Rattle.state.specs.declared.Apps.{Apps}
-use Rattle.state.specs.declared.Definitions.{Definitions}
-use Rattle.state.specs.declared.Parts.{Parts}
-use Rattle.state.specs.declared.Resources.{Resources}
 use Rattle.state.specs.declared.Instances.{Instances}
-use Rattle.tables.specs.declared.Place.{Place}
-use Rattle.tables.specs.declared.Look.{Look}
+use Rattle.state.specs.declared.Table.{Table}
+use Rattle.state.specs.Listed.{Apps, Definitions, Parts, Resources, list_in}
 use Rattle.tables.specs.declared.Operation.{Operation}
 use Rattle.tables.specs.declared.Change.{Change}
 use Rattle.rules.specs.Lists.{any, keep, mem}
@@ -29,31 +24,30 @@ use Rattle.state.specs.Tables.{grouped_in}
 use Rattle.tables.specs.Held.{apps_in, rows_in, definitions_in, parts_in, resources_in, instances_in}
 use Rattle.tables.specs.Held.{apps_table, definitions_table, parts_table, resources_table}
 use Rattle.tables.specs.Finding.{place_of, is_app, is_part, is_definition, is_instance}
-use Rattle.tables.specs.Looking.{look_of, op_of, view_by, running_place}
+use Rattle.tables.specs.Looking.{option_of, op_of, view_by, running_place}
 use Rattle.tables.specs.Running.{next_of}
-use Rattle.tables.specs.Changing.{append_app, append_definition, append_part, append_resource, append_instance}
-use Rattle.tables.specs.Changing.{remove_instance, write_value, change_app, drop_grants}
+use Rattle.tables.specs.Changing.{append_instance, remove_instance, write_value, change_app, drop_grants}
 
-pub find-app-only : (apps : Apps) (number : ℕ) (r r' : Place)
+pub find-app-only : (apps : Apps) (number : ℕ) (r r' : Option ℕ)
     → r ≡ place_of (is_app number) (apps_in apps) → r' ≡ place_of (is_app number) (apps_in apps) → r ≡ r'
 find-app-only apps number = only_one (place_of (is_app number) (apps_in apps))
 
-pub find-part-only : (parts : Parts) (number : ℕ) (r r' : Place)
+pub find-part-only : (parts : Parts) (number : ℕ) (r r' : Option ℕ)
     → r ≡ place_of (is_part number) (parts_in parts) → r' ≡ place_of (is_part number) (parts_in parts) → r ≡ r'
 find-part-only parts number = only_one (place_of (is_part number) (parts_in parts))
 
-pub find-definition-only : (definitions : Definitions) (permission : ℕ) (r r' : Place)
+pub find-definition-only : (definitions : Definitions) (permission : ℕ) (r r' : Option ℕ)
     → r ≡ place_of (is_definition permission) (definitions_in definitions)
     → r' ≡ place_of (is_definition permission) (definitions_in definitions) → r ≡ r'
 find-definition-only definitions permission =
     only_one (place_of (is_definition permission) (definitions_in definitions))
 
-pub find-instance-only : (instances : Instances) (number : ℕ) (r r' : Place)
+pub find-instance-only : (instances : Instances) (number : ℕ) (r r' : Option ℕ)
     → r ≡ place_of (is_instance number) (instances_in instances)
     → r' ≡ place_of (is_instance number) (instances_in instances) → r ≡ r'
 find-instance-only instances number = only_one (place_of (is_instance number) (instances_in instances))
 
-pub find-resource-only : (resources : Resources) (provider uri : ℕ) (r r' : Place)
+pub find-resource-only : (resources : Resources) (provider uri : ℕ) (r r' : Option ℕ)
     → r ≡ place_of (is_resource provider uri) (resources_in resources)
     → r' ≡ place_of (is_resource provider uri) (resources_in resources) → r ≡ r'
 find-resource-only resources provider uri = only_one (place_of (is_resource provider uri) (resources_in resources))
@@ -94,26 +88,30 @@ pub has-byte-only : (bytes : List ℕ) (count number : ℕ) (r r' : Bool)
     → r ≡ mem number (take count (bytes)) → r' ≡ mem number (take count (bytes)) → r ≡ r'
 has-byte-only bytes count number = only_one (mem number (take count (bytes)))
 
-pub built-in-only : (permission : ℕ) (r r' : Look)
-    → r ≡ look_of (built_in permission) → r' ≡ look_of (built_in permission) → r ≡ r'
-built-in-only permission = only_one (look_of (built_in permission))
+pub is-on-only : (room : ℕ) (list : Table ℕ room) (number : ℕ) (r r' : Bool)
+    → r ≡ mem number (list_in list) → r' ≡ mem number (list_in list) → r ≡ r'
+is-on-only room list number = only_one (mem number (list_in list))
 
-pub known-from-only : (apps : Apps) (definition : Definition) (r r' : Look)
-    → r ≡ look_of (known_from (apps_of (rows_in apps)) definition)
-    → r' ≡ look_of (known_from (apps_of (rows_in apps)) definition) → r ≡ r'
-known-from-only apps definition = only_one (look_of (known_from (apps_of (rows_in apps)) definition))
+pub built-in-only : (permission : ℕ) (r r' : Option Known)
+    → r ≡ option_of (built_in permission) → r' ≡ option_of (built_in permission) → r ≡ r'
+built-in-only permission = only_one (option_of (built_in permission))
 
-pub defined-in-only : (apps : Apps) (definitions : Definitions) (permission : ℕ) (r r' : Look)
-    → r ≡ look_of (defined_in (apps_of (rows_in apps)) (definitions_in definitions) permission)
-    → r' ≡ look_of (defined_in (apps_of (rows_in apps)) (definitions_in definitions) permission) → r ≡ r'
+pub known-from-only : (apps : Apps) (definition : Definition) (r r' : Option Known)
+    → r ≡ option_of (known_from (apps_of (rows_in apps)) definition)
+    → r' ≡ option_of (known_from (apps_of (rows_in apps)) definition) → r ≡ r'
+known-from-only apps definition = only_one (option_of (known_from (apps_of (rows_in apps)) definition))
+
+pub defined-in-only : (apps : Apps) (definitions : Definitions) (permission : ℕ) (r r' : Option Known)
+    → r ≡ option_of (defined_in (apps_of (rows_in apps)) (definitions_in definitions) permission)
+    → r' ≡ option_of (defined_in (apps_of (rows_in apps)) (definitions_in definitions) permission) → r ≡ r'
 defined-in-only apps definitions permission =
-    only_one (look_of (defined_in (apps_of (rows_in apps)) (definitions_in definitions) permission))
+    only_one (option_of (defined_in (apps_of (rows_in apps)) (definitions_in definitions) permission))
 
-pub known-of-only : (apps : Apps) (definitions : Definitions) (permission : ℕ) (r r' : Look)
-    → r ≡ look_of (known (view_by (rows_in apps) (definitions_in definitions) [] []) permission)
-    → r' ≡ look_of (known (view_by (rows_in apps) (definitions_in definitions) [] []) permission) → r ≡ r'
+pub known-of-only : (apps : Apps) (definitions : Definitions) (permission : ℕ) (r r' : Option Known)
+    → r ≡ option_of (known (view_by (rows_in apps) (definitions_in definitions) [] []) permission)
+    → r' ≡ option_of (known (view_by (rows_in apps) (definitions_in definitions) [] []) permission) → r ≡ r'
 known-of-only apps definitions permission =
-    only_one (look_of (known (view_by (rows_in apps) (definitions_in definitions) [] []) permission))
+    only_one (option_of (known (view_by (rows_in apps) (definitions_in definitions) [] []) permission))
 
 pub granted-only : (apps : Apps) (app permission : ℕ) (r r' : Bool)
     → r ≡ granted_in (rows_in apps) app permission → r' ≡ granted_in (rows_in apps) app permission → r ≡ r'
@@ -151,7 +149,7 @@ ground-right-only apps definitions app provider operation =
     only_one (right_ground (view_by (rows_in apps) (definitions_in definitions) [] []) (row_of app).app provider
     (op_of operation))
 
-pub running-app-only : (apps : Apps) (parts : Parts) (instances : Instances) (number : ℕ) (r r' : Place)
+pub running-app-only : (apps : Apps) (parts : Parts) (instances : Instances) (number : ℕ) (r r' : Option ℕ)
     → r ≡ running_place (apps_in apps) (parts_in parts) (instances_in instances) number
     → r' ≡ running_place (apps_in apps) (parts_in parts) (instances_in instances) number → r ≡ r'
 running-app-only apps parts instances number =
@@ -179,22 +177,6 @@ pub remove-resources-only : (resources : Resources) (parts : Parts) (app : ℕ) 
     ≡ r'
 remove-resources-only resources parts app =
     only_one (resources_table (keep (λ x. not (owned_by (parts_in parts) app x.provider)) (resources_in resources)))
-
-pub append-app-only : (apps : Apps) (app : App) (r r' : Apps)
-    → r ≡ append_app apps app → r' ≡ append_app apps app → r ≡ r'
-append-app-only apps app = only_one (append_app apps app)
-
-pub append-definition-only : (definitions : Definitions) (definition : Definition) (r r' : Definitions)
-    → r ≡ append_definition definitions definition → r' ≡ append_definition definitions definition → r ≡ r'
-append-definition-only definitions definition = only_one (append_definition definitions definition)
-
-pub append-part-only : (parts : Parts) (part : Part) (r r' : Parts)
-    → r ≡ append_part parts part → r' ≡ append_part parts part → r ≡ r'
-append-part-only parts part = only_one (append_part parts part)
-
-pub append-resource-only : (resources : Resources) (resource : Resource) (r r' : Resources)
-    → r ≡ append_resource resources resource → r' ≡ append_resource resources resource → r ≡ r'
-append-resource-only resources resource = only_one (append_resource resources resource)
 
 pub append-instance-only : (instances : Instances) (instance : Instance) (r r' : Instances)
     → r ≡ append_instance instances instance → r' ≡ append_instance instances instance → r ≡ r'

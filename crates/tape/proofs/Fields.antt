@@ -1,6 +1,6 @@
 -- Fields: how long they are, and that fields written one after the other are a line.
 use Prim.Native.Nat.{ℕ, suc, ◌+◌, ◌<◌, ◌≤◌, ◌^◌}
-use mathlib.Core.Path.{◌≡◌, sym, subst, ◌∙◌}
+use mathlib.Core.Path.{◌≡◌, sym, subst}
 use mathlib.Core.List.{List, [], ◌∷◌}
 use lib.ListN.{length, length-append}
 use native.Mathlib.Omega.{arith}
@@ -11,9 +11,7 @@ use Rattle.rules.specs.declared.Reason.TheVariants.{StateNotValid, MalformedActi
 use Rattle.rules.specs.declared.Reason.TheVariants.{NoSuchApp, NoSuchComponent, NoSuchInstance, NoSuchResource}
 use Rattle.rules.specs.declared.Reason.TheVariants.{Undefined, CannotBeGranted, NotPermitted, NothingToTakeBack, InUse}
 use Rattle.rules.specs.declared.Reason.TheVariants.{PartOfTheImage, NoRoom}
-use Rattle.rules.specs.declared.Answer.{Answer}
-use Rattle.rules.specs.declared.Answer.TheVariants.{Done, Refused}
-use Rattle.rules.specs.Answer.{number_of, ground_number, line_of}
+use Rattle.rules.specs.Answer.{Answer, done, refused, number_of, ground_number, line_of}
 use Rattle.history.specs.Sheet.{digits_within, decimal, field, field_or_none, answer_text, line_text, end_text}
 use Rattle.history.specs.Sheet.{running_text}
 use Rattle.history.specs.Sheet.{lent_text}
@@ -70,34 +68,33 @@ number_small InUse = omega arith
 number_small PartOfTheImage = omega arith
 number_small NoRoom = omega arith
 
-pub ground-field : {a : Answer} {g : Ground} {v : ℕ} (n m b : ℕ) → a ≡ Done g v → n ≡ m → m ≡ ground_number g
+pub ground-field : {a : Answer} {g : Ground} {v : ℕ} (n b : ℕ) → a ≡ done g v → n ≡ ground_number g
     → length (field n b) ≤ 2
 unfolding tens
-ground-field {g = g} n m b q e f = let h = ground-small g in field-most 0 n b (omega arith) (omega arith)
+ground-field {g = g} n b e f = let h = ground-small g in field-most 0 n b (omega arith) (omega arith)
 
-pub number-field : {a : Answer} {r : Reason} (n m b : ℕ) → a ≡ Refused r → n ≡ m → m ≡ number_of r
-    → length (field n b) ≤ 3
+pub number-field : {a : Answer} {r : Reason} (n b : ℕ) → a ≡ refused r → n ≡ number_of r → length (field n b) ≤ 3
 unfolding tens
-number-field {r = r} n m b q e f = let h = number_small r in field-most 1 n b (omega arith) (omega arith)
+number-field {r = r} n b e f = let h = number_small r in field-most 1 n b (omega arith) (omega arith)
 
 -- ---- lines
 pub same-field : {l m : List ℕ} {i j n x : ℕ} (b : ℕ) → n ≡ x → Written l i (field n b) m j
     → Written l i (field x b) m j
 same-field {l} {m} {i} {j} b e w = subst (λ (k : ℕ). Written l i (field k b) m j) e w
 
-pub done-written : {l m n o : List ℕ} {i j k h v x y : ℕ} {g : Ground} {a : Answer} → a ≡ Done g v → x ≡ y
-    → y ≡ ground_number g → Written l i (48 ∷ 32 ∷ []) m j → Written m j (field x 32) n k → Written n k (field v 10) o h
+pub done-written : {l m n o : List ℕ} {i j k h v x : ℕ} {g : Ground} {a : Answer} → a ≡ done g v
+    → x ≡ ground_number g → Written l i (48 ∷ 32 ∷ []) m j → Written m j (field x 32) n k → Written n k (field v 10) o h
     → Written l i (answer_text a) o h
 unfolding answer_text line_of field_or_none decimal digits_within
-done-written {l} {o = o} {i} {h = h} e p q u v w =
-    subst (λ (t : Answer). Written l i (answer_text t) o h) (sym e) (then u (then (same-field 32 (p ∙ q) v) w))
+done-written {l} {o = o} {i} {h = h} e p u v w =
+    subst (λ (t : Answer). Written l i (answer_text t) o h) (sym e) (then u (then (same-field 32 p v) w))
 
-pub refused-written : {l m n : List ℕ} {i j k x y : ℕ} {r : Reason} {a : Answer} → a ≡ Refused r → x ≡ y
-    → y ≡ number_of r → Written l i (field x 32) m j → Written m j (45 ∷ 32 ∷ 45 ∷ 10 ∷ []) n k
+pub refused-written : {l m n : List ℕ} {i j k x : ℕ} {r : Reason} {a : Answer} → a ≡ refused r
+    → x ≡ number_of r → Written l i (field x 32) m j → Written m j (45 ∷ 32 ∷ 45 ∷ 10 ∷ []) n k
     → Written l i (answer_text a) n k
 unfolding answer_text line_of field_or_none
-refused-written {l} {n = n} {i} {k = k} e p q v w =
-    subst (λ (t : Answer). Written l i (answer_text t) n k) (sym e) (then (same-field 32 (p ∙ q) v) w)
+refused-written {l} {n = n} {i} {k = k} e p v w =
+    subst (λ (t : Answer). Written l i (answer_text t) n k) (sym e) (then (same-field 32 p v) w)
 
 pub line-written : {l m n o : List ℕ} {i j k h : ℕ} (place code : ℕ) (a : Answer) → Written l i (field place 32) m j
     → Written m j (field code 32) n k → Written n k (answer_text a) o h → Written l i (line_text place code a) o h

@@ -10,10 +10,11 @@ use Rattle.state.specs.declared.Device.{Device}
 use Rattle.state.specs.Tables.{fresh}
 use Rattle.state.specs.Stored.{zero_loan, device_of}
 use Rattle.monitor.specs.declared.Stepped.{Stepped}
+use Rattle.history.specs.Tape.{actions_place}
 use Rattle.history.specs.Sheet.{line_text}
 use Rattle.history.specs.Run.{monitor_steps, Held, fresh_held, held_at, counts_text, run_lines, run_text}
 use Rattle.tape.specs.Written.{Written}
-use Rattle.tape.specs.Reading.{TapeAt, held_by, stepped}
+use Rattle.tape.specs.Reading.{held_by, stepped}
 use Rattle.tape.specs.Ran.{RanAt}
 use Rattle.tape.proofs.Writing.{nothing, then}
 
@@ -23,9 +24,10 @@ ran-none s h out from = record { held = refl; lines = nothing out from }
 
 pub ran-more : {s : List ℕ} {h : Held} {old : List ℕ} {from i : ℕ} {d : Device} {lent : List Loan} {out : List ℕ}
     {at : ℕ}
-    → RanAt s h old from i (held_by d lent) out at → {new : List ℕ} {to p : ℕ} (next : Stepped) → TapeAt s p
+    → RanAt s h old from i (held_by d lent) out at → {new : List ℕ} {to records : ℕ} (next : Stepped)
+    → records ≡ actions_place s + 2
     → next ≡ stepped s d lent i
-    → Written out at (line_text (i + 1) (get_or s (p + 2 + 12 * i) 0) next.answer) new to
+    → Written out at (line_text (i + 1) (get_or s (records + 12 * i) 0) next.answer) new to
     → RanAt s h old from (i + 1) (held_by next.device next.lent) new to
 unfolding held_at run_lines
 ran-more {s} {h} {i = i} {d} {lent} r next t e w =
@@ -34,7 +36,7 @@ ran-more {s} {h} {i = i} {d} {lent} r next t e w =
     = e ∙ ap (λ (x : Held). stepped s x.device x.lent i) r.held in
     rw (add-one i) (record {
       held = ap (λ (x : Stepped). held_by x.device x.lent) f;
-      lines = then r.lines (rw (f, t.here) at w);
+      lines = then r.lines (rw (f, t) at w);
     })
 
 pub ran_to : {s : List ℕ} {h k : Held} {old out : List ℕ} {from i n at : ℕ} → i ≡ n → RanAt s h old from i k out at

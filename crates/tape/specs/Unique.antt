@@ -4,9 +4,8 @@ use Rattle.std.specs.Prelude.{◌≡◌, ℕ, List}
 use Rattle.manifest.specs.Unique.{only_one}
 use Rattle.history.specs.Sheet.{sheet}
 use Rattle.history.specs.Run.{Held}
-use Rattle.tape.specs.declared.Wrote.{Wrote}
 use Rattle.tape.specs.declared.Ran.{Ran}
-use Rattle.tape.specs.Filled.{wrote, filled, sheet_room}
+use Rattle.tape.specs.Filled.{Wrote, wrote, filled, sheet_room}
 use Rattle.tape.specs.Ran.{lines_room, lines_of, ran}
 
 module _ (tape out : List ℕ) where

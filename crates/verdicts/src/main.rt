@@ -85,10 +85,11 @@ fn length_of(low: u8, high: u8) -> usize
     ensures value { result ≡ low + 256 * high }
     ensures upper_bound { result ≤ 65535 }
 {
-    low as usize + 256 * high as usize
+    usize::from(u16::from_le_bytes([low, high]))
 }
 
-// The reader answers 0 or 3. A `?` on a line would say that the compiled one does not.
+// The numbers are those of the C interface. The reader answers 0 or 3; a `?` on a line would say that the compiled one
+// does not.
 fn digit_of(answer: u32) -> u8
     ensures good { answer ≡ 0 → result ≡ 48 }
     ensures malformed { answer ≡ 3 → result ≡ 51 }

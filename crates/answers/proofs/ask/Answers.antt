@@ -1,48 +1,46 @@
--- `ask` meets its contract: the tests come in the order of the refusals.
-use Rattle.answers.proofs.Kit.{ℕ, [], sym, ap, ◌∙◌, view_by, refuses, passes, ends}
-use Rattle.rules.specs.declared.Ground.TheVariants.{Nothing}
-use Rattle.rules.specs.declared.Answer.TheVariants.{Done}
-use Rattle.rules.specs.Action.{bit, ask, query}
-use Rattle.rules.specs.Permissions.{known, hold, holds}
+-- `ask` meets its contract: the conditions come in the order of the refusals.
+use Rattle.std.proofs.Common.{◌∙◌, []}
+use Rattle.rules.specs.Lists.{is_some, missing, test}
+use Rattle.rules.specs.Permissions.{hold, holds}
 use Rattle.rules.specs.Refusals.{refusals}
-use Rattle.rules.specs.Answer.{answer, ground_for, value_for}
-use Rattle.state.specs.Tables.{view_of}
+use Rattle.rules.specs.Answer.{decide, answer, ground_for, value_for}
 use Rattle.state.specs.Stored.{model_of}
-use Rattle.answers.specs.AnsweringLaws.{Passed}
+use Rattle.state.specs.Tables.{view_of}
+use Rattle.tables.specs.Looking.{view_by}
+use Rattle.answers.proofs.Conditions.{app-is, app-none, got, known-is, known-none, missed, refuses}
 use Rattle.answers.proofs.ask.Goals as goal
-use Rattle.answers.proofs.ask.Goals.{Else-no_app, Else-undefined, Start}
 
--- the first k tests are passed
-Past : ℕ → Start → Type 0
-unfolding answer refusals ground_for value_for known holds hold view_by view_of model_of
-Past k c = Passed k c.args.d [] (query (ask c.args.app c.args.permission))
+pub returns-in_err-app : goal.returns-in_err-app
+unfolding answer refusals decide missing is_some
+returns-in_err-app c =
+    let d = c.args.d in
+    let app = missed c.ok_or.ensures.ok_part c.in_err-app.was in
+    refuses _ _ c.ok_or.ensures.value c.in_err-app.was c.from_residual.ensures.1
+    ∙ rw (app-none d [] c.args.app c.app_of.ensures app)
 
-pub returns-then-no_app : goal.returns-then-no_app
-unfolding Past
-returns-then-no_app c = refuses _ _ _ c.no_app.ensures c.if-no_app.true
-
-past-1 : (c : Else-no_app) → Past 1 (search)
-unfolding Past
-past-1 c = passes _ _ _ c.no_app.ensures c.if-no_app.false
-
-pub returns-then-undefined : goal.returns-then-undefined
-unfolding Past
-returns-then-undefined c =
-    let path = goal.at.returns-then-undefined c in
-    refuses _ _ _ c.undefined.ensures c.if-undefined.true ∙ past-1 path.Else-no_app
-
-past-2 : (c : Else-undefined) → Past 2 (search)
-unfolding Past
-past-2 c = passes _ _ _ c.undefined.ensures c.if-undefined.false ∙ past-1 (search)
-
-pub returns-then-held_by : goal.returns-then-held_by
-unfolding Past
-returns-then-held_by c =
-    let path = goal.at.returns-then-held_by c in
-    ap (λ t. Done Nothing (bit t)) (sym c.if-held_by.true ∙ c.held_by.ensures) ∙ ends ∙ past-2 path.Else-undefined
+pub returns-in_err-known : goal.returns-in_err-known
+unfolding answer refusals decide missing is_some
+returns-in_err-known c =
+    let d = c.args.d in
+    let app = got c.ok_or.ensures.ok_part c.in_ok-app.was in
+    let known = missed c.ok_or-2.ensures.ok_part c.in_err-known.was in
+    refuses _ _ c.ok_or-2.ensures.value c.in_err-known.was c.from_residual-in_err-known.ensures.1
+    ∙ rw (
+      app-is d [] c.args.app c.app_of.ensures app,
+      known-none d [] c.args.permission c.known_of.ensures known,
+    )
 
 pub returns : goal.returns
-unfolding Past
+unfolding answer refusals decide missing is_some test view_of model_of ground_for value_for holds hold view_by
 returns c =
-    let path = goal.at.returns c in
-    ap (λ t. Done Nothing (bit t)) (sym c.if-held_by.false ∙ c.held_by.ensures) ∙ ends ∙ past-2 path.Else-undefined
+    let d = c.args.d in
+    let app = got c.ok_or.ensures.ok_part c.in_ok-app.was in
+    let known = got c.ok_or-2.ensures.ok_part c.in_ok-known.was in
+    c.done.ensures
+    ∙ rw (
+      app-is d [] c.args.app c.app_of.ensures app,
+      known-is d [] c.args.permission c.known_of.ensures known,
+      c.from.ensures,
+      c.is_held-held.ensures,
+      c.hold.ensures,
+    )

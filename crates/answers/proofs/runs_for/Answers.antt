@@ -1,29 +1,27 @@
--- `runs_for` meets its contract: the instance at the place that is found is the first of its number.
-use Rattle.answers.proofs.Kit.{◌<◌, sym, ◌∙◌, arith, test, map_option, view_by, is_instance, Found, found}
-use Rattle.answers.proofs.Kit.{not_found, instances-long}
-use Rattle.state.specs.Stored.{zero_instance}
-use Rattle.state.specs.Tables.{run_in, view_of}
+-- `runs_for` meets its contract: the instance and its component are the first of their numbers.
+use Rattle.std.proofs.Common.{sym, ◌∙◌}
+use Rattle.rules.specs.Lists.{test, map_option}
+use Rattle.state.specs.Stored.{model_of}
+use Rattle.state.specs.Tables.{view_of, part_at, run_in}
+use Rattle.tables.specs.FindingLaws.{first-some, first_none}
 use Rattle.answers.proofs.runs_for.Goals as goal
-use Rattle.answers.proofs.runs_for.Goals.{In-At}
 
-there : (c : In-At) → let args = c.args in
-    Found (is_instance args.number) zero_instance args.instances.entries args.instances.count c.in-At.i
-there c = found _ zero_instance _ _ _ (sym c.find_instance-run.ensures ∙ c.in-At.is)
+pub returns-in_default : goal.returns-in_default
+unfolding test view_of model_of run_in map_option
+returns-in_default c = rw (first_none _ _ (sym c.instance_of.ensures ∙ c.in_default.is))
 
-below : (c : In-At) → c.in-At.i < 64
-below c =
-    omega (arith, (there c).below, instances-long c.args.instances c.well_formed.1.0)
+pub returns-in-None : goal.returns-in-None
+unfolding test view_of model_of run_in part_at map_option
+returns-in-None c =
+    rw (
+      first-some _ _ _ (sym c.instance_of.ensures ∙ c.in-Some.is),
+      first_none _ _ (sym c.part_of.ensures ∙ c.in-None.is),
+    )
 
-pub offset_bounds-instances-i : goal.offset_bounds-instances-i
-offset_bounds-instances-i c = omega (arith, below (goal.at.offset_bounds-instances-i c).In-At)
-
-pub bounds-instances-i : goal.bounds-instances-i
-bounds-instances-i c = below (goal.at.bounds-instances-i c).In-At
-
-pub returns-in-Nothing : goal.returns-in-Nothing
-unfolding test map_option run_in view_by view_of
-returns-in-Nothing c = rw (not_found _ _ (sym c.find_instance-run.ensures ∙ c.in-Nothing.is))
-
-pub returns-in-At : goal.returns-in-At
-unfolding test map_option run_in view_by view_of
-returns-in-At c = c.owned_by.ensures ∙ rw (there (goal.at.returns-in-At c).In-At).same
+pub returns-in-Some-part_of : goal.returns-in-Some-part_of
+unfolding test view_of model_of run_in part_at map_option
+returns-in-Some-part_of c =
+    rw (
+      first-some _ _ _ (sym c.instance_of.ensures ∙ c.in-Some.is),
+      first-some _ _ _ (sym c.part_of.ensures ∙ c.in-Some-part_of.is),
+    )

@@ -1,63 +1,62 @@
--- `start` meets its contract: the tests come in the order of the refusals.
-use Rattle.answers.proofs.Kit.{◌≡◌, [], sym, refl, ap, ◌∙◌, missing, or_else, view_by, refuses}
-use Rattle.answers.proofs.Kit.{passes, ends}
-use mathlib.Core.List.{◌∷◌}
-use Rattle.rules.specs.Grounds.{startable, running_app}
-use Rattle.rules.specs.Refusals.{◌when◌}
+-- `start` meets its contract: the conditions come in the order of the refusals.
+use Rattle.std.proofs.Common.{sym, ◌∙◌, [], arith}
+use Rattle.rules.specs.Lists.{is_some, missing, test, or_else}
 use Rattle.rules.specs.Answer.{decide}
-use Rattle.rules.specs.declared.Ground.TheVariants.{Nothing}
-use Rattle.rules.specs.declared.Reason.TheVariants.{NoRoom}
-use Rattle.rules.specs.declared.Answer.TheVariants.{Done}
-use Rattle.state.specs.Tables.{view_of}
-use Rattle.state.specs.Stored.{model_of}
-use Rattle.answers.specs.Answering.{view_in}
-use Rattle.answers.specs.Starting.{start_with, free_of}
+use Rattle.answers.specs.Starting.{start_with}
 use Rattle.answers.specs.StartingLaws.{is_free, none_free}
-use Rattle.answers.specs.GroundsLaws.{gone, there}
+use Rattle.answers.proofs.Conditions.{got, missed, refuses, startable-is, startable-none}
 use Rattle.answers.proofs.start.Goals as goal
-use Rattle.answers.proofs.start.Goals.{Else-may_not_start, Start}
 
--- the room alone is left to be asked for
-Room : Start → Type 0
-unfolding start_with startable running_app view_by view_of model_of
-Room c =
-    let free = free_of c.args.d.instances.running in
-    decide (NoRoom when missing free ∷ []) (Done Nothing (or_else 0 free))
-    ≡ start_with free (view_in c.args.d []) c.args.component c.args.caller
-
-pub returns-then-not_startable : goal.returns-then-not_startable
-unfolding Room
-returns-then-not_startable c = refuses _ _ _ c.not_startable.ensures c.if-not_startable.true
+pub returns-in_err-part : goal.returns-in_err-part
+unfolding start_with decide missing is_some
+returns-in_err-part c =
+    let d = c.args.d in
+    let part = missed c.ok_or.ensures.ok_part c.in_err-part.was in
+    refuses _ _ c.ok_or.ensures.value c.in_err-part.was c.from_residual.ensures.1
+    ∙ rw (startable-none d [] c.args.component c.startable.ensures part)
 
 pub returns-then-no_caller : goal.returns-then-no_caller
-unfolding Room
+unfolding start_with decide missing is_some
 returns-then-no_caller c =
-    refuses _ _ _ c.no_caller.ensures c.if-no_caller.true
-    ∙ passes _ _ _ c.not_startable.ensures c.if-not_startable.false
+    let d = c.args.d in
+    let part = got c.ok_or.ensures.ok_part c.in_ok-part.was in
+    rw (
+      startable-is d [] c.args.component c.startable.ensures part,
+      sym c.no_caller.ensures ∙ c.if-no_caller.true,
+    )
 
-pub returns-then-may_not_start : goal.returns-then-may_not_start
-unfolding Room
-returns-then-may_not_start c =
-    refuses _ _ _ c.may_not_start.ensures c.if-may_not_start.true
-    ∙ passes _ _ _ c.no_caller.ensures c.if-no_caller.false
-    ∙ passes _ _ _ c.not_startable.ensures c.if-not_startable.false
+pub returns-then-barred : goal.returns-then-barred
+unfolding start_with decide missing is_some test
+returns-then-barred c =
+    let d = c.args.d in
+    let part = got c.ok_or.ensures.ok_part c.in_ok-part.was in
+    rw (
+      startable-is d [] c.args.component c.startable.ensures part,
+      sym c.no_caller.ensures ∙ c.if-no_caller.false,
+      sym c.barred.ensures ∙ c.if-barred.true,
+    )
 
-room : (c : Else-may_not_start) → Room (search)
-unfolding Room
-room c =
-    passes _ _ _ c.may_not_start.ensures c.if-may_not_start.false
-    ∙ passes _ _ _ c.no_caller.ensures c.if-no_caller.false
-    ∙ passes _ _ _ c.not_startable.ensures c.if-not_startable.false
-
-pub returns-then-n-lt65 : goal.returns-then-n-lt65
-unfolding Room or_else
-returns-then-n-lt65 c =
-    let path = goal.at.returns-then-n-lt65 c in
-    let f = is_free _ c.next_number-n.ensures c.if-n-lt65.true in
-    ap (λ o. Done Nothing (or_else 0 o)) (sym f) ∙ ends ∙ passes _ _ _ refl (there f) ∙ room path.Else-may_not_start
+pub returns-then-n-gt64 : goal.returns-then-n-gt64
+unfolding start_with decide missing is_some test
+returns-then-n-gt64 c =
+    let d = c.args.d in
+    let part = got c.ok_or.ensures.ok_part c.in_ok-part.was in
+    rw (
+      startable-is d [] c.args.component c.startable.ensures part,
+      sym c.no_caller.ensures ∙ c.if-no_caller.false,
+      sym c.barred.ensures ∙ c.if-barred.false,
+      none_free _ c.next_number-n.ensures c.if-n-gt64.true,
+    )
 
 pub returns : goal.returns
-unfolding Room
+unfolding start_with decide missing is_some test or_else
 returns c =
-    let path = goal.at.returns c in
-    refuses _ _ _ refl (gone (none_free _ c.next_number-n.ensures c.if-n-lt65.false)) ∙ room path.Else-may_not_start
+    let d = c.args.d in
+    let part = got c.ok_or.ensures.ok_part c.in_ok-part.was in
+    c.done.ensures
+    ∙ rw (
+      startable-is d [] c.args.component c.startable.ensures part,
+      sym c.no_caller.ensures ∙ c.if-no_caller.false,
+      sym c.barred.ensures ∙ c.if-barred.false,
+      is_free _ c.next_number-n.ensures (omega (arith, c.if-n-gt64.false)),
+    )

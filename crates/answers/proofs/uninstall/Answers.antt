@@ -1,43 +1,50 @@
--- `uninstall` meets its contract: the tests come in the order of the refusals.
-use Rattle.answers.proofs.Kit.{ℕ, [], ◌∙◌, view_by, refuses, passes, ends}
-use Rattle.rules.specs.Action.{uninstall, on_apps}
-use Rattle.rules.specs.Refusals.{is_running, refusals}
-use Rattle.rules.specs.Answer.{answer, ground_for, value_for}
-use Rattle.state.specs.Tables.{view_of}
+-- `uninstall` meets its contract: the conditions come in the order of the refusals.
+use Rattle.std.proofs.Common.{sym, ◌∙◌, []}
+use Rattle.rules.specs.Lists.{is_some, missing, test}
+use Rattle.rules.specs.Refusals.{refusals}
+use Rattle.rules.specs.Answer.{decide, answer, ground_for, value_for}
 use Rattle.state.specs.Stored.{model_of}
-use Rattle.answers.specs.AnsweringLaws.{Passed}
+use Rattle.state.specs.Tables.{view_of}
+use Rattle.answers.proofs.Conditions.{app-is, app-none, got, missed, refuses}
 use Rattle.answers.proofs.uninstall.Goals as goal
-use Rattle.answers.proofs.uninstall.Goals.{Else-is_running, Else-no_app, Start}
 
--- the first k tests are passed
-Past : ℕ → Start → Type 0
-unfolding answer refusals ground_for value_for is_running view_by view_of model_of
-Past k c = Passed k c.args.d [] (on_apps (uninstall c.args.app))
-
-pub returns-then-no_app : goal.returns-then-no_app
-unfolding Past
-returns-then-no_app c = refuses _ _ _ c.no_app.ensures c.if-no_app.true
-
-past-1 : (c : Else-no_app) → Past 1 (search)
-unfolding Past
-past-1 c = passes _ _ _ c.no_app.ensures c.if-no_app.false
+pub returns-in_err-found : goal.returns-in_err-found
+unfolding answer refusals decide missing is_some test view_of model_of
+returns-in_err-found c =
+    let d = c.args.d in
+    let app = missed c.ok_or.ensures.ok_part c.in_err-found.was in
+    refuses _ _ c.ok_or.ensures.value c.in_err-found.was c.from_residual.ensures.1
+    ∙ rw (app-none d [] c.args.app c.app_of.ensures app)
 
 pub returns-then-is_running : goal.returns-then-is_running
-unfolding Past
+unfolding answer refusals decide missing is_some test view_of model_of
 returns-then-is_running c =
-    let path = goal.at.returns-then-is_running c in
-    refuses _ _ _ c.is_running.ensures c.if-is_running.true ∙ past-1 path.Else-no_app
+    let d = c.args.d in
+    let app = got c.ok_or.ensures.ok_part c.in_ok-found.was in
+    rw (
+      app-is d [] c.args.app c.app_of.ensures app,
+      sym c.is_running.ensures ∙ c.if-is_running.true,
+    )
 
-past-2 : (c : Else-is_running) → Past 2 (search)
-unfolding Past
-past-2 c = passes _ _ _ c.is_running.ensures c.if-is_running.false ∙ past-1 (search)
-
-pub returns-then-in_image : goal.returns-then-in_image
-unfolding Past
-returns-then-in_image c =
-    let path = goal.at.returns-then-in_image c in
-    refuses _ _ _ c.in_image.ensures c.if-in_image.true ∙ past-2 path.Else-is_running
+pub returns-then-found : goal.returns-then-found
+unfolding answer refusals decide missing is_some test view_of model_of
+returns-then-found c =
+    let d = c.args.d in
+    let app = got c.ok_or.ensures.ok_part c.in_ok-found.was in
+    rw (
+      app-is d [] c.args.app c.app_of.ensures app,
+      sym c.is_running.ensures ∙ c.if-is_running.false,
+      c.if-found.true,
+    )
 
 pub returns : goal.returns
-unfolding Past
-returns c = ends ∙ passes _ _ _ c.in_image.ensures c.if-in_image.false ∙ past-2 (goal.at.returns c).Else-is_running
+unfolding answer refusals decide missing is_some test view_of model_of ground_for value_for
+returns c =
+    let d = c.args.d in
+    let app = got c.ok_or.ensures.ok_part c.in_ok-found.was in
+    c.done.ensures
+    ∙ rw (
+      app-is d [] c.args.app c.app_of.ensures app,
+      sym c.is_running.ensures ∙ c.if-is_running.false,
+      c.if-found.false,
+    )

@@ -1,69 +1,94 @@
--- `withdraw` meets its contract: the tests come in the order of the refusals.
-use Rattle.answers.proofs.Kit.{ℕ, [], ◌∙◌, view_by, refuses, passes, ends}
-use Rattle.rules.specs.Action.{withdraw, on_loans}
-use Rattle.rules.specs.Grounds.{provider, running_app}
-use Rattle.rules.specs.Refusals.{refusals}
-use Rattle.rules.specs.Answer.{answer, ground_for, value_for}
-use Rattle.state.specs.Tables.{view_of}
+-- `withdraw` meets its contract: the conditions come in the order of the refusals.
+use Rattle.std.proofs.Common.{sym, ◌∙◌, []}
+use Rattle.rules.specs.Lists.{is_some, missing, test, bind, map_option}
+use Rattle.rules.specs.Permissions.{known, hold, holds, allows}
+use Rattle.rules.specs.Grounds.{right_ground, right_of}
+use Rattle.rules.specs.Refusals.{lacking, refusals}
+use Rattle.rules.specs.Answer.{decide, answer, ground_for, value_for}
 use Rattle.state.specs.Stored.{model_of}
-use Rattle.answers.specs.AnsweringLaws.{Passed}
+use Rattle.state.specs.Tables.{view_of}
+use Rattle.tables.specs.Looking.{view_by}
+use Rattle.answers.proofs.Conditions.{got, missed, provider-is, provider-none}
+use Rattle.answers.proofs.Conditions.{refuses, runner-is, runner-none, value-is, value-none}
 use Rattle.answers.proofs.withdraw.Goals as goal
-use Rattle.answers.proofs.withdraw.Goals.{Else-no_operations, Else-no_provider, Else-no_resource, Else-not_running}
-use Rattle.answers.proofs.withdraw.Goals.{Start}
 
--- the first k tests are passed
-Past : ℕ → Start → Type 0
-unfolding answer refusals ground_for value_for provider running_app view_by view_of model_of
-Past k c =
-    Passed k c.args.d []
-    (on_loans (withdraw c.args.operations c.args.provider c.args.instance c.args.uri))
+pub returns-then-not-is_operations : goal.returns-then-not-is_operations
+unfolding answer refusals decide missing is_some
+returns-then-not-is_operations c =
+    rw (sym c.is_operations.ensures ∙ c.if-not-is_operations.true)
 
-pub returns-then-no_operations : goal.returns-then-no_operations
-unfolding Past
-returns-then-no_operations c = refuses _ _ _ c.no_operations.ensures c.if-no_operations.true
+pub returns-in_err-part : goal.returns-in_err-part
+unfolding answer refusals decide missing is_some
+returns-in_err-part c =
+    let d = c.args.d in
+    let part = missed c.ok_or.ensures.ok_part c.in_err-part.was in
+    refuses _ _ c.ok_or.ensures.value c.in_err-part.was c.from_residual.ensures.1
+    ∙ rw (
+      sym c.is_operations.ensures ∙ c.if-not-is_operations.false,
+      provider-none d [] c.args.provider c.provider_of.ensures part,
+    )
 
-past-1 : (c : Else-no_operations) → Past 1 (search)
-unfolding Past
-past-1 c = passes _ _ _ c.no_operations.ensures c.if-no_operations.false
+pub returns-in_err-app : goal.returns-in_err-app
+unfolding answer refusals decide missing is_some
+returns-in_err-app c =
+    let d = c.args.d in
+    let part = got c.ok_or.ensures.ok_part c.in_ok-part.was in
+    let app = missed c.ok_or-2.ensures.ok_part c.in_err-app.was in
+    refuses _ _ c.ok_or-2.ensures.value c.in_err-app.was c.from_residual-in_err-app.ensures.1
+    ∙ rw (
+      sym c.is_operations.ensures ∙ c.if-not-is_operations.false,
+      provider-is d [] c.args.provider c.provider_of.ensures part,
+      runner-none d [] c.args.instance c.runner.ensures app,
+    )
 
-pub returns-then-no_provider : goal.returns-then-no_provider
-unfolding Past
-returns-then-no_provider c =
-    let path = goal.at.returns-then-no_provider c in
-    refuses _ _ _ c.no_provider.ensures c.if-no_provider.true ∙ past-1 path.Else-no_operations
+pub returns-in_err-ok_or : goal.returns-in_err-ok_or
+unfolding answer refusals decide missing is_some
+returns-in_err-ok_or c =
+    let d = c.args.d in
+    let part = got c.ok_or.ensures.ok_part c.in_ok-part.was in
+    let app = got c.ok_or-2.ensures.ok_part c.in_ok-app.was in
+    let resource = missed c.ok_or-3.ensures.ok_part c.in_err-ok_or.was in
+    refuses _ _ c.ok_or-3.ensures.value c.in_err-ok_or.was c.from_residual-in_err-ok_or.ensures.1
+    ∙ rw (
+      sym c.is_operations.ensures ∙ c.if-not-is_operations.false,
+      provider-is d [] c.args.provider c.provider_of.ensures part,
+      runner-is d [] c.args.instance c.runner.ensures app,
+      value-none d [] c.args.provider c.args.uri c.resource_of.ensures resource,
+    )
 
-past-2 : (c : Else-no_provider) → Past 2 (search)
-unfolding Past
-past-2 c = passes _ _ _ c.no_provider.ensures c.if-no_provider.false ∙ past-1 (search)
-
-pub returns-then-not_running : goal.returns-then-not_running
-unfolding Past
-returns-then-not_running c =
-    let path = goal.at.returns-then-not_running c in
-    refuses _ _ _ c.not_running.ensures c.if-not_running.true ∙ past-2 path.Else-no_provider
-
-past-3 : (c : Else-not_running) → Past 3 (search)
-unfolding Past
-past-3 c = passes _ _ _ c.not_running.ensures c.if-not_running.false ∙ past-2 (search)
-
-pub returns-then-no_resource : goal.returns-then-no_resource
-unfolding Past
-returns-then-no_resource c =
-    let path = goal.at.returns-then-no_resource c in
-    refuses _ _ _ c.no_resource.ensures c.if-no_resource.true ∙ past-3 path.Else-not_running
-
-past-4 : (c : Else-no_resource) → Past 4 (search)
-unfolding Past
-past-4 c = passes _ _ _ c.no_resource.ensures c.if-no_resource.false ∙ past-3 (search)
-
-pub returns-then-lacks_right : goal.returns-then-lacks_right
-unfolding Past
-returns-then-lacks_right c =
-    let path = goal.at.returns-then-lacks_right c in
-    refuses _ _ _ c.lacks_right.ensures c.if-lacks_right.true ∙ past-4 path.Else-no_resource
+pub returns-then-lacking : goal.returns-then-lacking
+unfolding answer refusals decide missing is_some view_of model_of test lacking right_of right_ground allows holds hold
+    known view_by bind map_option
+returns-then-lacking c =
+    let d = c.args.d in
+    let part = got c.ok_or.ensures.ok_part c.in_ok-part.was in
+    let app = got c.ok_or-2.ensures.ok_part c.in_ok-app.was in
+    let resource = got c.ok_or-3.ensures.ok_part c.in_ok-ok_or.was in
+    rw (
+      sym c.is_operations.ensures ∙ c.if-not-is_operations.false,
+      provider-is d [] c.args.provider c.provider_of.ensures part,
+      runner-is d [] c.args.instance c.runner.ensures app,
+      value-is d [] c.args.provider c.args.uri c.resource_of.ensures resource,
+      ← c.ground_right-read.ensures,
+      ← c.ground_right-write.ensures,
+      sym c.lacking.ensures ∙ c.if-lacking.true,
+    )
 
 pub returns : goal.returns
-unfolding Past
+unfolding answer refusals decide missing is_some view_of model_of test lacking right_of right_ground allows holds hold
+    known view_by bind map_option ground_for value_for
 returns c =
-    let path = goal.at.returns c in
-    ends ∙ passes _ _ _ c.lacks_right.ensures c.if-lacks_right.false ∙ past-4 path.Else-no_resource
+    let d = c.args.d in
+    let part = got c.ok_or.ensures.ok_part c.in_ok-part.was in
+    let app = got c.ok_or-2.ensures.ok_part c.in_ok-app.was in
+    let resource = got c.ok_or-3.ensures.ok_part c.in_ok-ok_or.was in
+    c.done.ensures
+    ∙ rw (
+      sym c.is_operations.ensures ∙ c.if-not-is_operations.false,
+      provider-is d [] c.args.provider c.provider_of.ensures part,
+      runner-is d [] c.args.instance c.runner.ensures app,
+      value-is d [] c.args.provider c.args.uri c.resource_of.ensures resource,
+      ← c.ground_right-read.ensures,
+      ← c.ground_right-write.ensures,
+      sym c.lacking.ensures ∙ c.if-lacking.false,
+    )

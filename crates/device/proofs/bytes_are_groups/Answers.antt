@@ -1,20 +1,13 @@
--- The loop tests every byte up to the count, or finds one that fails.
-use Rattle.device.proofs.Kit.{◌∙◌, sym, arith, each_from, each_next, each-fails}
-use Rattle.device.proofs.Kit.{each-ends}
+-- Each byte is a group.
+use Rattle.std.proofs.Common.{rules, ◌∙◌}
+use Rattle.std.proofs.lemmas.Iterator.{YieldsList-from_slice}
+use Rattle.std.proofs.lemmas.Iterator.Search.{all_from_yields_List}
+use borrow.Author.Tests.{tests}
+use Rattle.rules.specs.Refusals.{is_group}
 use Rattle.device.proofs.bytes_are_groups.Goals as goal
 
-pub loop-i-init : goal.loop-i-init
-loop-i-init c = each_from 0 c.requires (omega arith)
-
-pub loop-i-preserved : goal.loop-i-preserved
-loop-i-preserved c =
-    each_next c.loop-i.invariant c.loop-i-test.true _
-    (sym c.is_group.ensures ∙ c.if-is_group.true)
-
-pub returns-else-is_group : goal.returns-else-is_group
-returns-else-is_group c =
-    each-fails c.loop-i.invariant c.loop-i-test.true _
-    (sym c.is_group.ensures ∙ c.if-is_group.false)
-
 pub returns : goal.returns
-returns c = each-ends c.loop-i.invariant c.loop-i-test.false
+unfolding is_group
+returns c =
+    all_from_yields_List is_group _ _ c.all.result c.all.ensures.ran
+    (YieldsList-from_slice _ (c.iter.ensures.rest ∙ c.held.ensures.value)) (λ x b q k. search (rules, tests))

@@ -1,24 +1,13 @@
 -- A permission is dangerous if its definition in force says so.
-use Rattle.rules.specs.declared.Known.{Known}
-use Rattle.rules.specs.Permissions.{known}
-use Rattle.tables.specs.Looking.{view_by}
-use Rattle.tables.specs.LookingLaws.{look-found, look_none}
-use Rattle.tables.specs.Held.{rows_in, definitions_in}
-use Rattle.device.proofs.Kit.{Option, [], ◌∙◌, sym, test}
+use Rattle.std.proofs.Common.{sym, ◌∙◌}
+use Rattle.rules.specs.Lists.{test}
+use Rattle.tables.specs.OptionLaws.{option-some, option_none}
 use Rattle.device.proofs.is_dangerous.Goals as goal
-use Rattle.device.proofs.is_dangerous.Goals.{Start}
 
--- what was asked of the definitions
-abbrev asked : Start → Option Known
-asked c = known (view_by (rows_in c.args.apps) (definitions_in c.args.definitions) [] []) c.args.permission
-
-pub returns-in-Undefined : goal.returns-in-Undefined
+pub returns-in-None : goal.returns-in-None
 unfolding test
-returns-in-Undefined c =
-    let path = goal.at.returns-in-Undefined c in
-    rw (look_none (asked path.Start) (sym c.known_of-look.ensures ∙ c.in-Undefined.is))
+returns-in-None c = rw (option_none _ (sym c.known_of.ensures ∙ c.in-None.is))
 
-pub returns-in-Found : goal.returns-in-Found
+pub returns-in-Some : goal.returns-in-Some
 unfolding test
-returns-in-Found c =
-    rw (look-found (asked (goal.at.returns-in-Found c).Start) _ (sym c.known_of-look.ensures ∙ c.in-Found.is))
+returns-in-Some c = rw (option-some _ _ (sym c.known_of.ensures ∙ c.in-Some.is))

@@ -1,34 +1,26 @@
--- The component at the place that is found is the first of the number; where none is found there is none.
-use Rattle.rules.specs.Lists.{or_else}
-use Rattle.state.specs.Stored.{zero_part}
+-- The component that is found is the first of its number, and the default is all zero.
+use Rattle.std.proofs.Common.{◌≡◌}
+use Rattle.std.proofs.Math.Option.{Option as Rules, none, some}
+use Rattle.std.specs.Option.{UnwrapsOrElse}
+use Rattle.rules.specs.declared.Part.{Part}
+use Rattle.rules.specs.Lists.{find, or_else}
 use Rattle.state.specs.Tables.{part_at}
+use Rattle.state.specs.Stored.{zero_part}
+use Rattle.state.proofs.Zeros.{part-zero}
 use Rattle.tables.specs.Finding.{is_part}
-use Rattle.tables.specs.FindingLaws.{Found, found, not_found}
-use Rattle.device.proofs.Kit.{◌<◌, ◌≡◌, ◌∙◌, sym, arith, length}
+use Rattle.tables.specs.Held.{parts_in}
+use Rattle.tables.specs.Looking.{option_of}
+use Rattle.tables.specs.FindingLaws.{first}
 use Rattle.device.proofs.part_at.Goals as goal
-use Rattle.device.proofs.part_at.Goals.{In-At}
 
-there : (c : In-At) → Found (is_part c.args.number) zero_part
-    c.args.parts.entries c.args.parts.count c.in-At.i
-there c = found _ zero_part _ _ _ (sym c.find_part-place.ensures ∙ c.in-At.is)
+unwrapped : (is_default : Part → Type 0) → ((k : Part) → is_default k → k ≡ zero_part) → (o : Rules Part) (k : Part)
+    → UnwrapsOrElse (option_of o) is_default k → k ≡ or_else zero_part o
+unfolding or_else
+unwrapped is_default zero none k e = zero k e
+unwrapped is_default zero (some x) k e = e
 
-below : (c : In-At) → c.in-At.i < 64
-below c =
-    let l : length c.args.parts.entries ≡ 64 = c.well_formed.0.1.1.0.1.0.1 in
-    omega (arith, (there c).below)
-
-pub returns-in-Nothing : goal.returns-in-Nothing
-unfolding part_at or_else
-returns-in-Nothing c = c.no_part.ensures
-    ∙ rw (not_found (is_part c.args.number) _
-    (sym c.find_part-place.ensures ∙ c.in-Nothing.is))
-
-pub returns-in-At : goal.returns-in-At
-unfolding part_at or_else
-returns-in-At c = rw (there (goal.at.returns-in-At c).In-At).same
-
-pub offset_bounds-parts-i : goal.offset_bounds-parts-i
-offset_bounds-parts-i c = omega (arith, below (goal.at.offset_bounds-parts-i c).In-At)
-
-pub bounds-parts-i : goal.bounds-parts-i
-bounds-parts-i c = below (goal.at.bounds-parts-i c).In-At
+pub returns : goal.returns
+unfolding part_at
+returns c =
+    unwrapped _ part-zero (find (is_part c.args.number) (parts_in c.args.parts)) _
+    (rw (← first (is_part c.args.number) (parts_in c.args.parts), ← c.part_of.ensures) c.unwrap_or_default.ensures)

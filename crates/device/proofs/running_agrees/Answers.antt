@@ -1,48 +1,26 @@
--- The loop halves the number, and its lowest digit says each time whether the instance of the next number runs.
-use Rattle.state.specs.Stored.{runs, mask_of}
-use Rattle.rules.specs.Action.{bit}
-use Rattle.tables.specs.Held.{instances_in}
-use Rattle.device.specs.ScanLaws.{digits-begin, digits-next, digits-fail, digits-end}
-use Rattle.device.proofs.Kit.{Bool, true, false, ◌≡◌, ◌∙◌, sym, ap, arith}
+-- Each turn brings one instance more of the list.
+use Rattle.std.proofs.Common.{◌∙◌, ◌<◌, get_or, arith, length, take, take_all, length-take}
+use Rattle.std.proofs.lemmas.List.{take_more}
+use Rattle.state.specs.Stored.{zero_instance}
+use Rattle.state.proofs.Zeros.{instance-zero}
+use Rattle.tables.specs.HeldLaws.{instance-more}
+use Rattle.device.specs.LookupLaws.{mask-none}
 use Rattle.device.proofs.running_agrees.Goals as goal
-use Rattle.device.proofs.running_agrees.Goals.{After-has_instance}
 
-pub loop-k-init : goal.loop-k-init
-loop-k-init c = digits-begin (omega (arith, c.well_formed.0.1.1.1.1.0))
+pub loop-instance-init : goal.loop-instance-init
+loop-instance-init c =
+    rw (c.empty.ensures, instance-zero c.default.result c.default.ensures, mask-none)
 
--- what the list says of the number, as a digit
-digit : (c : After-has_instance) (t : Bool) → c.has_instance.result ≡ t
-    → bit (runs (instances_in c.args.t) c.loop-k.k) ≡ bit t
-digit c t e = ap bit (sym c.has_instance.ensures ∙ e)
-
-pub returns-then-m-eq0 : goal.returns-then-m-eq0
-unfolding mask_of
-returns-then-m-eq0 c =
-    let path = goal.at.returns-then-m-eq0 c in
-    digits-fail c.loop-k.invariant c.loop-k-test.true
-    (λ e. let z : 0 ≡ 1 = sym c.if-m-eq0.true ∙ e ∙ digit path.After-has_instance true c.if-has_instance.true in omega
-    arith)
-
-pub loop-k-preserved-then-has_instance : goal.loop-k-preserved-then-has_instance
-loop-k-preserved-then-has_instance c =
-    let path = goal.at.loop-k-preserved-then-has_instance c in
-    digits-next c.loop-k.invariant c.loop-k-test.true
-    (omega (arith, c.if-m-eq0.false) ∙ sym (digit path.After-has_instance true c.if-has_instance.true))
-
-pub returns-then-m-eq1 : goal.returns-then-m-eq1
-unfolding mask_of
-returns-then-m-eq1 c =
-    let path = goal.at.returns-then-m-eq1 c in
-    digits-fail c.loop-k.invariant c.loop-k-test.true
-    (λ e. let z : 1 ≡ 0 = sym c.if-m-eq1.true ∙ e ∙ digit path.After-has_instance false c.if-has_instance.false in omega
-    arith)
-
-pub loop-k-preserved : goal.loop-k-preserved
-loop-k-preserved c =
-    let path = goal.at.loop-k-preserved c in
-    digits-next c.loop-k.invariant c.loop-k-test.true
-    (omega (arith, c.if-m-eq1.false) ∙ sym (digit path.After-has_instance false c.if-has_instance.false))
+pub loop-instance-preserved : goal.loop-instance-preserved
+loop-instance-preserved c =
+    let i = c.loop-instance.instance-index in
+    let l = c.held-instance-items.result.now in
+    let below = c.loop-instance-test.true in
+    let few : length (take i l) < 64 = omega (arith, length-take i l, c.held-instance-items.ensures.room) in
+    c.append_instance-brought.ensures
+    ∙ rw (c.loop-instance.invariant, take_more l i zero_instance below)
+    (instance-more (take i l) (get_or l i zero_instance) few)
 
 pub returns : goal.returns
-unfolding mask_of
-returns c = digits-end c.loop-k.invariant c.loop-k-test.false
+returns c =
+    rw (c.loop-instance.invariant, take_all _ _ c.loop-instance-test.false, c.held-instance-items.ensures.value)

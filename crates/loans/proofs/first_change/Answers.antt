@@ -1,20 +1,21 @@
--- `first_change` meets its contract: at each turn the records passed are the same.
-use Rattle.loans.proofs.Kit.{sym, ◌∙◌, table-long}
-use Rattle.loans.specs.ChangeLaws.{alike-begin, alike_next, alike-differs, alike-ends}
+-- `first_change` meets its contract: the library's search over the pairs of records.
+use Rattle.std.proofs.Common.{rules, ◌∙◌, ap, Option}
+use Rattle.std.specs.Option.{unwrap_or}
+use Rattle.std.specs.Slice.Iter.{iter_rest}
+use Rattle.std.proofs.lemmas.Iterator.{YieldsList-from_slice, YieldsList-from_zip}
+use Rattle.std.proofs.lemmas.Iterator.Search.{position_from_yields_List}
+use borrow.Author.Tests.{tests}
+use Rattle.loans.proofs.Same.{differing, first_found}
+use Rattle.loans.proofs.Sizes.{table-long}
 use Rattle.loans.proofs.first_change.Goals as goal
 
-pub loop-i-init : goal.loop-i-init
-loop-i-init c = alike-begin (table-long c.args.old c.well_formed.0) (table-long c.args.new c.well_formed.1.0)
-
-pub loop-i-preserved : goal.loop-i-preserved
-loop-i-preserved c =
-    alike_next c.loop-i.invariant
-    c.loop-i-test.true _ (sym c.same_loan.ensures ∙ c.if-same_loan.true)
-
-pub returns-else-same_loan : goal.returns-else-same_loan
-returns-else-same_loan c =
-    alike-differs c.loop-i.invariant
-    c.loop-i-test.true _ (sym c.same_loan.ensures ∙ c.if-same_loan.false)
-
 pub returns : goal.returns
-returns c = alike-ends c.loop-i.invariant c.loop-i-test.false
+returns c =
+    let a = c.args in
+    c.unwrap_or.ensures
+    ∙ ap (λ (r : Option _). unwrap_or r 128)
+    (position_from_yields_List differing c.position.new.self _ c.position.result c.position.ensures.ran
+    (YieldsList-from_zip (YieldsList-from_slice a.old (ap iter_rest c.zip.ensures.first ∙ c.iter.ensures.rest))
+    (YieldsList-from_slice a.new (ap iter_rest c.zip.ensures.second ∙ c.iter-2.ensures.rest)))
+    (λ x b q k. search (rules, tests)))
+    ∙ first_found a.old a.new 128 (table-long a.old c.well_formed.0) (table-long a.new c.well_formed.1.0)

@@ -1,19 +1,16 @@
--- `operations_of` meets its contract: each pair of answers has its number.
+-- `operations_of` meets its contract: a read counts 1 and a write 2.
+use Rattle.std.proofs.Common.{◌≡◌, ◌+◌, ◌*◌, Bool, true, false, refl}
+use mir.Val.{bool_byte}
 use Rattle.rules.specs.Action.{operations_of}
+use Rattle.loans.specs.Held.{by_op}
 use Rattle.loans.proofs.operations_of.Goals as goal
 
-pub returns-then-writes : goal.returns-then-writes
+counted : (r w : Bool) → bool_byte r + 2 * bool_byte w ≡ operations_of (by_op r w)
 unfolding operations_of
-returns-then-writes c = rw (c.if-reads.true, c.if-writes.true)
-
-pub returns-then-reads : goal.returns-then-reads
-unfolding operations_of
-returns-then-reads c = rw (c.if-reads.true, c.if-writes.false)
-
-pub returns-then-writes-2 : goal.returns-then-writes-2
-unfolding operations_of
-returns-then-writes-2 c = rw (c.if-reads.false, c.if-writes-2.true)
+counted true true = refl
+counted true false = refl
+counted false true = refl
+counted false false = refl
 
 pub returns : goal.returns
-unfolding operations_of
-returns c = rw (c.if-reads.false, c.if-writes-2.false)
+returns c = rw (c.from.ensures, c.from-2.ensures) (counted c.args.reads c.args.writes)

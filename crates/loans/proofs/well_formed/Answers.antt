@@ -1,6 +1,5 @@
 -- `well_formed` meets its contract: each code has the test of its row.
-use Rattle.std.proofs.Common.{arith}
-use Rattle.loans.proofs.Kit.{sym}
+use Rattle.std.proofs.Common.{arith, sym}
 use Rattle.rules.specs.Lists.{find, test}
 use Rattle.rules.specs.ListsLaws.{and-true}
 use Rattle.rules.specs.Action.{is_operations}
@@ -66,6 +65,4 @@ unfolding well_formed test find forms fitting fits is_operations
 returns-in-14 c = rw c.in-14.is
 
 pub returns-in_default : goal.returns-in_default
-returns-in_default c =
-    sym (not-well-formed c.args.r
-    (λ low high. omega arith))
+returns-in_default c = sym (not-well-formed c.args.r (λ low high. omega arith))

@@ -1,33 +1,34 @@
--- `on_lend` meets its contract: a receiver that is there has a number that fits, and the step follows the answer.
-use Rattle.monitor.proofs.Kit.{sym, ap, ◌∙◌, leb-true, model_of, kept_by, numbers-narrow, lend-stays}
-use Rattle.rules.specs.Action.{Receiver, on_loans, lend}
+-- `on_lend` meets its contract: a refusal leaves all, a receiver of a number that does not fit is not there, and else
+-- the loans with the one lent are those of the next state.
+use Rattle.monitor.proofs.Kit.{refl, sym, ap, ◌∙◌, kept, refused-stays, loans-steps, lend-left, lend-stays}
+use Rattle.monitor.proofs.Kit.{numbers-narrow, narrow-same, narrow-none}
+use Rattle.rules.specs.Action.{lend, Receiver}
+use Rattle.state.specs.Stored.{model_of}
+use Rattle.loans.specs.Held.{loans_table, lend_in}
 use Rattle.answers.specs.Answering.{receiver_of as wide_receiver}
-use Rattle.monitor.specs.Stepped.{answer_to, stepped_by}
 use Rattle.monitor.proofs.on_lend.Goals as goal
+use Rattle.monitor.proofs.on_lend.Goals.{in_default-via-in-Ok+in_default, in_default-via-in_default}
 
-pub narrow-requires : goal.narrow-requires
-narrow-requires c = leb-true _ _ (sym c.fits.ensures ∙ c.if-fits.true)
-
-pub after_lend-requires : goal.after_lend-requires
-after_lend-requires c =
-    let a = c.args in record {
-      state_valid = c.requires;
-      answer_given = c.lend-answer.ensures
-          ∙ ap (λ (q : Receiver). answer_to (model_of a.d a.lent)
-          (on_loans (lend a.operations a.provider a.giver a.uri q)))
-          (sym c.narrow.ensures);
-    }
-
-pub returns-then-fits : goal.returns-then-fits
-returns-then-fits c =
+pub returns-in-Ok-Some : goal.returns-in-Ok-Some
+unfolding model_of
+returns-in-Ok-Some c =
     let a = c.args in
-    c.after_lend.ensures
-    ∙ ap (λ (q : Receiver). stepped_by a.d a.lent
-    (on_loans (lend a.operations a.provider a.giver a.uri q)))
-    c.narrow.ensures
+    let on = kept a.on c.well_formed.0 in
+    let to = narrow-same a.receiver c.in-Ok-Some.to (sym c.narrow.ensures ∙ c.in-Ok-Some.is-1) in
+    let lent = (let e = c.lend-left.ensures in rw c.loans.ensures at e) in
+    loans-steps _ _ on _ _ _ c.in-Ok-Some.is-0
+    (lend a.operations a.provider a.giver a.uri (wide_receiver a.receiver)) c.lend-answer.ensures _
+    (lent ∙ ap (λ (q : Receiver). loans_table (lend_in q a.provider a.uri a.operations
+    (model_of a.on.device a.on.lent).loans)) to
+    ∙ lend-left _ _ on _ _ _ c.in-Ok-Some.is-0 _ _ _ _ _ c.lend-answer.ensures) _ refl
 
-pub returns : goal.returns
-returns c =
-    lend-stays _ _ _ _ _ _ (wide_receiver c.args.receiver) _ (kept_by c.well_formed.0 c.requires)
-    (numbers-narrow c.args.d c.well_formed.0) c.lend-answer.ensures
-    (sym c.fits.ensures ∙ c.if-fits.false)
+pub returns-in_default : goal.returns-in_default
+returns-in_default c =
+    let on = kept c.args.on c.well_formed.0 in
+    c.unchanged.ensures ∙ elim c.in_default.branch [
+      | in_default-via-in-Ok+in_default w ↦
+          lend-stays _ _ _ _ _ _ (wide_receiver c.args.receiver) _ on (numbers-narrow c.args.on c.well_formed.0)
+          c.lend-answer.ensures
+          (narrow-none c.args.receiver (sym c.narrow.ensures ∙ w.in_default.is-1))
+      | in_default-via-in_default w ↦ refused-stays _ _ _ _ _ on c.lend-answer.ensures w.in_default.is-0
+    ]

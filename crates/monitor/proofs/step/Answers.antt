@@ -1,16 +1,13 @@
--- `step` meets its contract: the records written back make the lent table the next one.
-use Rattle.monitor.specs.LendingLaws.{outcome-is, lent_is}
+-- `step` meets its contract: a table of 128 records is stepped, and the records written back make it the next one; any
+-- other is refused and stays.
+use Rattle.monitor.specs.LendingLaws.{refused-lent, stepped-lent}
 use Rattle.monitor.proofs.step.Goals as goal
+
+pub returns-then-out-ne128 : goal.returns-then-out-ne128
+returns-then-out-ne128 c = refused-lent _ _ _ _ _ c.copy_out-out.ensures c.if-out-ne128.true
 
 pub returns : goal.returns
 returns c =
-    let a = c.args in
-    let out = c.copy_out-out in
-    let s = c.step_lent-s in (
-      outcome-is a.d a.lent.now a.action.now a.bytes.now out.result s.result out.ensures s.ensures c.outcome_of.result
-          c.outcome_of.ensures,
-      lent_is a.d a.lent.now a.action.now a.bytes.now out.result s.result out.ensures s.ensures
-          c.table_of-table.result c.write_records.new.lent c.from_of-from.result c.to_of-to.result
-          c.table_of-table.ensures c.from_of-from.ensures c.to_of-to.ensures c.table_of-table.type_inv.1.0.1
-          c.write_records.ensures,
-    )
+    let s = c.step_table-s in
+    stepped-lent _ _ _ _ _ c.copy_out-out.ensures c.if-out-ne128.false _ s.ensures s.type_inv.1.1.1.0.1.0.1
+    _ c.changed-range.ensures _ c.write_records.ensures

@@ -4,7 +4,7 @@ use Rattle.tape.specs.FilledLaws.{bytes_inside}
 use Rattle.sheet.proofs.main.Goals as goal
 
 pub slice_bounds-out-end : goal.slice_bounds-out-end
-slice_bounds-out-end c = (bytes_inside _ _ _ refl c.in-Bytes.ensures.value c.in-Bytes.ensures.out_after).0
+slice_bounds-out-end c = (bytes_inside _ _ _ refl c.in-Ok.ensures.value c.in-Ok.ensures.out_after).0
 
 pub slice_bounds-written-end : goal.slice_bounds-written-end
-slice_bounds-written-end c = (bytes_inside _ _ _ refl c.in-Bytes.ensures.value c.in-Bytes.ensures.out_after).1
+slice_bounds-written-end c = (bytes_inside _ _ _ refl c.in-Ok.ensures.value c.in-Ok.ensures.out_after).1

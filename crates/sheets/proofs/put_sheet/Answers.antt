@@ -3,10 +3,10 @@ use Rattle.std.proofs.Common.{arith, refl}
 use Rattle.tape.specs.FilledLaws.{bytes_inside}
 use Rattle.sheets.proofs.put_sheet.Goals as goal
 
-pub overflow_sub-room-in-Bytes : goal.overflow_sub-room-in-Bytes
-overflow_sub-room-in-Bytes c =
+pub overflow_sub-room-2 : goal.overflow_sub-room-2
+overflow_sub-room-2 c =
     omega (
       arith,
-      (bytes_inside _ _ _ refl c.in-Bytes.ensures.value c.in-Bytes.ensures.out_after).0,
+      (bytes_inside _ _ _ refl c.in-Ok.ensures.value c.in-Ok.ensures.out_after).0,
       c.sheet_of.auto.out,
     )

@@ -1,5 +1,6 @@
 -- `allows` meets its contract: 0 needs nothing, and any other permission has to be held.
-use Rattle.tables.proofs.Kit.{◌∙◌, eq-eqb, ne_eqb}
+use Rattle.std.proofs.Common.{◌∙◌}
+use borrow.Author.Tests.{eq-eqb, ne_eqb}
 use Rattle.rules.specs.Permissions.{allows}
 use Rattle.tables.proofs.allows.Goals as goal
 
@@ -7,6 +8,6 @@ pub returns-then-permission-eq0 : goal.returns-then-permission-eq0
 unfolding allows
 returns-then-permission-eq0 c = rw (eq-eqb _ _ c.if-permission-eq0.true)
 
-pub returns : goal.returns
+pub returns-else-permission-eq0 : goal.returns-else-permission-eq0
 unfolding allows
-returns c = c.holds.ensures ∙ rw (ne_eqb _ _ c.if-permission-eq0.false, c.wide-p.ensures)
+returns-else-permission-eq0 c = c.holds.ensures ∙ rw (ne_eqb _ _ c.if-permission-eq0.false, c.from.ensures)

@@ -1,30 +1,10 @@
--- `drop_grants` meets its contract: at each turn one entry more of the list is changed.
-use Rattle.tables.proofs.Kit.{ℕ, refl, List, Bound, bound, apps-long}
-use Rattle.tables.proofs.Kit.{mapped-begin, mapped_next, mapped-ends}
-use mathlib.Core.Path.{ap₂}
-use Rattle.state.specs.declared.App.{App}
-use Rattle.state.specs.declared.Apps.{Apps}
+-- `drop_grants` meets its contract: the closure gives each entry changed.
+use Rattle.std.proofs.Common.{rules}
+use Rattle.tables.specs.Held.{definitions_in}
+use Rattle.tables.specs.Changing.{undefined_grants}
 use Rattle.tables.specs.Changing.{drop_grants}
 use Rattle.tables.proofs.drop_grants.Goals as goal
-use Rattle.tables.proofs.drop_grants.Goals.{After-within-n}
-
-abbrev table : List App → ℕ → Apps
-table l k = record { entries = l; count = k }
-
-start : (c : After-within-n) → Bound c.args.apps.entries c.args.apps.count
-    c.within-n.result
-start c = bound _ (apps-long c.args.apps c.well_formed.0) c.within-n.ensures
-
-pub loop-i-init : goal.loop-i-init
-loop-i-init c = (refl, mapped-begin (start (goal.at.loop-i-init c).After-within-n))
-
-pub loop-i-preserved : goal.loop-i-preserved
-loop-i-preserved c =
-    let l = c.loop-i in
-    (l.invariant.0, mapped_next l.invariant.1 c.loop-i-test.true _ c.undefined_grants-w.ensures)
 
 pub returns : goal.returns
 unfolding drop_grants
-returns c =
-    let l = c.loop-i in
-    ap₂ table (mapped-ends l.invariant.1 (start (goal.at.returns c).After-within-n) c.loop-i-test.false) l.invariant.0
+returns c = c.changed.ensures (undefined_grants (definitions_in c.args.definitions) c.args.app) (λ x r k. search rules)

@@ -1,24 +1,17 @@
--- `granted` meets its contract: at each turn the whole answer is the answer for the apps that are left.
-use Rattle.tables.proofs.Kit.{sym, ◌∙◌, apps-long, bound}
-use Rattle.tables.proofs.Kit.{some_as, some_next, some-hits, some-ends}
-use Rattle.tables.specs.Held.{apps_in}
+-- `granted` meets its contract: the search over the apps is the one over their rows.
+use Rattle.std.proofs.Common.{rules, ◌∙◌, sym, ◌&&◌, eqb}
+use Rattle.std.proofs.lemmas.Iterator.{YieldsList-from_slice}
+use Rattle.std.proofs.lemmas.Iterator.Search.{any_from_yields_List}
+use borrow.Author.Tests.{tests}
+use Rattle.rules.specs.Lists.{mem}
+use Rattle.state.specs.declared.App.{App}
+use Rattle.state.specs.Listed.{list_in}
 use Rattle.tables.specs.LookingLaws.{granted-any}
 use Rattle.tables.proofs.granted.Goals as goal
 
-pub loop-i-init : goal.loop-i-init
-loop-i-init c =
-    some_as (granted-any (apps_in c.args.apps) _ _)
-    (bound _ (apps-long c.args.apps c.well_formed.0) c.within-n.ensures)
-
-pub returns-then-has_grant : goal.returns-then-has_grant
-returns-then-has_grant c =
-    some-hits c.loop-i.invariant c.loop-i-test.true _
-    (sym c.has_grant.ensures ∙ c.if-has_grant.true)
-
-pub loop-i-preserved : goal.loop-i-preserved
-loop-i-preserved c =
-    some_next c.loop-i.invariant c.loop-i-test.true _
-    (sym c.has_grant.ensures ∙ c.if-has_grant.false)
-
 pub returns : goal.returns
-returns c = some-ends c.loop-i.invariant c.loop-i-test.false
+returns c =
+    any_from_yields_List (λ (a : App). eqb a.number c.args.app && mem c.args.permission (list_in a.grants)) _ _ c.any.result
+    c.any.ensures.ran (YieldsList-from_slice _ (c.iter.ensures.rest ∙ c.held.ensures.value))
+    (λ x b q k. search (rules, tests))
+    ∙ sym (granted-any _ c.args.app c.args.permission)

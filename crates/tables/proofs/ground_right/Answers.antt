@@ -1,5 +1,6 @@
 -- `ground_right` meets its contract: the owner first, then an exported provider whose permission allows it.
-use Rattle.tables.proofs.Kit.{sym, ◌∙◌, eq-eqb, ne_eqb}
+use Rattle.std.proofs.Common.{sym, ◌∙◌}
+use borrow.Author.Tests.{eq-eqb, ne_eqb}
 use Rattle.rules.specs.Grounds.{right_ground}
 use Rattle.tables.proofs.ground_right.Goals as goal
 

@@ -1,6 +1,6 @@
 -- `next_number` meets its contract: there are at most 64 trailing zeros, so that one more fits.
 use Prim.Native.Nat.{◌^◌}
-use Rattle.tables.proofs.Kit.{◌-◌, arith}
+use Rattle.std.proofs.Common.{◌-◌, arith}
 use lib.Count.{trailing_le}
 use Rattle.tables.proofs.next_number.Goals as goal
 

@@ -1,5 +1,5 @@
 -- `put` meets its contract: the value of the one resource, and any other as it is.
-use Rattle.tables.proofs.Kit.{sym, ◌∙◌}
+use Rattle.std.proofs.Common.{sym, ◌∙◌}
 use Rattle.state.specs.Effects.{put}
 use Rattle.tables.proofs.put.Goals as goal
 

@@ -1,11 +1,11 @@
 -- `put_refused` meets its contract: the one line is written where it has room.
 use Rattle.tape.proofs.Kit.{arith}
-use Rattle.tape.specs.FilledLaws.{too_short}
+use Rattle.tape.specs.FilledLaws.{room-short}
 use Rattle.tape.proofs.Whole.{done}
 use Rattle.tape.proofs.put_refused.Goals as goal
 
 pub returns-then-out-lt13 : goal.returns-then-out-lt13
-returns-then-out-lt13 c = let both = too_short _ _ _ (omega arith) in record { value = both.0; out_after = both.1 }
+returns-then-out-lt13 c = let both = room-short _ _ _ (omega arith) in record { value = both.0; out_after = both.1 }
 
 pub returns : goal.returns
 returns c =

@@ -1,5 +1,0 @@
--- The parts of the test are those of the definition.
-use Rattle.device.proofs.zero_part.Goals as goal
-
-pub returns : goal.returns
-returns c = rw c.zero_component.ensures

@@ -1,8 +1,0 @@
--- `has_instance` meets its contract: a place is found exactly if some entry passes.
-use Rattle.tables.proofs.Kit.{ap, ◌∙◌}
-use Rattle.tables.specs.Finding.{is_at}
-use Rattle.tables.specs.FindingLaws.{at-if-any}
-use Rattle.tables.proofs.has_instance.Goals as goal
-
-pub returns : goal.returns
-returns c = c.is_at.ensures ∙ ap is_at c.find_instance.ensures ∙ at-if-any _ _
