@@ -1,4 +1,4 @@
--- What the rules answer for a device and the table of loans lent to it, and what the code's receiver says.
+-- What the rules answer for a device and the table of loans lent to it.
 use Rattle.std.specs.Prelude.{ℕ, Bool, List, eqb}
 use Rattle.std.proofs.Math.Option.{Option, some}
 use Rattle.rules.specs.declared.Loan.{Loan}
@@ -6,7 +6,7 @@ use Rattle.rules.specs.declared.Ground.{Ground}
 use Rattle.rules.specs.declared.Ground.TheVariants.{Nothing}
 use Rattle.rules.specs.Lists.{test, or_else}
 use Rattle.rules.specs.Limits.{large}
-use Rattle.rules.specs.Action.{Op, reading, writing, Receiver, an_instance, an_app, Action}
+use Rattle.rules.specs.Action.{Op, reading, writing, Action}
 use Rattle.rules.specs.View.{View}
 use Rattle.rules.specs.Grounds.{ground_of}
 use Rattle.rules.specs.Refusals.{access}
@@ -14,8 +14,6 @@ use Rattle.rules.specs.Answer.{Answer, done, decide, answer}
 use Rattle.state.specs.declared.Device.{Device}
 use Rattle.state.specs.Tables.{view_of}
 use Rattle.state.specs.Stored.{model_of}
-use Rattle.answers.specs.declared.Receiver.{Receiver as CodeReceiver}
-use Rattle.answers.specs.declared.Receiver.TheVariants.{Instance, App as ToApp}
 
 abbrev pub view_in : Device → List Loan → View
 view_in d lent = view_of (model_of d lent)
@@ -27,10 +25,6 @@ answer_in d lent x = answer large (view_in d lent) x
 unfoldable pub access_in : View → (provider instance uri : ℕ) → Op → Answer
 access_in v p n u op =
     decide (access v p n u op) (done (or_else Nothing (ground_of v p n u op)) (or_else 0 (v.value p u)))
-
-abbrev pub receiver_of : CodeReceiver → Receiver
-receiver_of (Instance n) = an_instance n
-receiver_of (ToApp b) = an_app b
 
 -- instance n is of app b
 abbrev pub is_of : View → ℕ → ℕ → Bool

@@ -8,8 +8,9 @@ use Rattle.rules.specs.declared.Loan.{Loan}
 use Rattle.rules.specs.Action.{install, uninstall, grant, revoke, grant_group, revoke_group, stop, lend, withdraw, read}
 use Rattle.rules.specs.Action.{ask, write, Action, on_apps, on_grants, on_runs, on_loans, query}
 use Rattle.state.specs.declared.Device.{Device}
-use Rattle.answers.specs.declared.Receiver.{Receiver}
-use Rattle.answers.specs.Answering.{view_in, answer_in, receiver_of}
+use Rattle.tables.specs.declared.Receiver.{Receiver}
+use Rattle.tables.specs.Looking.{receiver_of}
+use Rattle.answers.specs.Answering.{view_in, answer_in}
 use Rattle.answers.specs.Starting.{start_with, free_of}
 
 -- the answer to an action is the only one that meets the contract
@@ -51,7 +52,7 @@ read_only d lent p n u = only d lent (query (read p n u))
 pub write-only : (d : Device) (lent : List Loan) (p n u x : ℕ) → Only d lent (write p n u x)
 write-only d lent p n u x = only d lent (write p n u x)
 
-pub lend-only : (d : Device) (lent : List Loan) (o p n u : ℕ) (r : Receiver)
+pub lend-only : (d : Device) (lent : List Loan) (o p n u : ℕ) (r : Receiver ℕ)
     → Only d lent (on_loans (lend o p n u (receiver_of r)))
 lend-only d lent o p n u r = only d lent (on_loans (lend o p n u (receiver_of r)))
 

@@ -1,14 +1,16 @@
 //! The conditions of every action: for each action a function that gives its answer for every device.
-//! The conditions come in the order of the refusals, so that the first that applies is the answer.
+//! The conditions come in the order of the refusals, so that the first that applies is the answer. The device and the
+//! table lent with it are two arguments, as the contracts of the public functions have them.
 #![tactic(auto)]
 
-ghost use Rattle.std.specs.Prelude.{ℕ, ◌≡◌, not, ◌&&◌, ◌||◌, [], ◌+◌, ◌*◌, ◌≤◌, length, take, leb, ltb, eqb, Bool, Some};
+ghost use Rattle.std.specs.Prelude.{ℕ, ◌≡◌, not, ◌&&◌, ◌||◌, [], ◌+◌, ◌*◌, ◌≤◌, length, take, leb, ltb, eqb, Bool};
+ghost use Rattle.std.specs.Prelude.{Some};
 ghost use Rattle.manifest.specs.Layout.{manifest_of, laid_out, entries};
 ghost use Rattle.manifest.specs.Verdict.{verdict_of};
 ghost use Rattle.rules.specs.declared.Ground.TheVariants.{Nothing};
 ghost use Rattle.rules.specs.Lists.{any, missing, test};
-ghost use Rattle.rules.specs.Action.{grant, revoke, grant_group, revoke_group, stop, read, write, ask, carries};
-ghost use Rattle.rules.specs.Action.{is_operations, receiver_kind, receiver_number};
+ghost use Rattle.rules.specs.Action.{grant, revoke, grant_group, revoke_group, stop, read, write, ask};
+ghost use Rattle.rules.specs.Action.{is_operations};
 ghost use Rattle.rules.specs.Action.{install, uninstall, lend, withdraw, on_apps, on_grants, on_runs, on_loans, query};
 ghost use Rattle.rules.specs.Permissions.{known, dangerous};
 ghost use Rattle.rules.specs.Grounds.{ground, provider, startable, running_app};
@@ -22,8 +24,8 @@ ghost use Rattle.state.specs.Tables.{is_loan};
 ghost use Rattle.tables.specs.Closures.{Gives};
 ghost use Rattle.tables.specs.Held.{apps_in, parts_in, instances_in};
 ghost use Rattle.tables.specs.Finding.{is_app};
-ghost use Rattle.tables.specs.Looking.{option_of, op_of, view_by, runner_in};
-ghost use Rattle.answers.specs.Answering.{answer_in, view_in, access_in, receiver_of, grounds, is_of};
+ghost use Rattle.tables.specs.Looking.{option_of, op_of, receiver_of, view_by, runner_in};
+ghost use Rattle.answers.specs.Answering.{answer_in, view_in, access_in, grounds, is_of};
 ghost use Rattle.answers.specs.Starting.{start_with, free_of};
 
 use manifest::Sections;
@@ -32,11 +34,7 @@ use state::{App, Apps, Device, Parts, Table};
 use tables::Operation;
 
 /// To whom a loan goes.
-#[derive(Clone, Copy, PartialEq, Eq)]
-pub enum Receiver {
-    Instance(u32),
-    App(u32),
-}
+pub type Receiver = tables::Receiver<u32>;
 
 // ---- questions
 
@@ -277,7 +275,7 @@ fn clashes(d: Device, bytes: &[u8], m: Sections) -> bool
         }))
 }
 
-// Does an entry of a section pass a test? The test is given its place.
+// Does an entry of a section pass a test? The test is given its place. Private, since it takes a closure.
 fn any_entry<F: Fn(usize) -> bool>(first: usize, size: usize, count: u8, passes: F) -> bool
     requires callable { F.IsAlwaysCallable passes }
     requires fits { first + size * count ≤ 9223372036854775807 }
@@ -462,8 +460,8 @@ fn ground_of(
 fn lacking(operations: u8, read: Ground, write: Ground) -> bool
     ensures { result ≡ lacking operations (grounds read write) }
 {
-    (carries(operations, Operation::Read) & (read == Ground::Nothing))
-        | (carries(operations, Operation::Write) & (write == Ground::Nothing))
+    (Operation::Read.is_in(operations) & (read == Ground::Nothing))
+        | (Operation::Write.is_in(operations) & (write == Ground::Nothing))
 }
 
 #[tactic(auto, unfolding(rules::specs::Action::is_operations))]
@@ -471,15 +469,6 @@ fn is_operations(operations: u8) -> bool
     ensures { result ≡ is_operations operations }
 {
     (1..=3).contains(&operations)
-}
-
-fn carries(operations: u8, operation: Operation) -> bool
-    ensures { result ≡ carries (op_of operation) operations }
-{
-    match operation {
-        Operation::Read => (operations == 1) | (operations == 3),
-        Operation::Write => (operations == 2) | (operations == 3),
-    }
 }
 
 // ---- loans
@@ -497,7 +486,7 @@ fn is_lent(
 {
     let loans = loans_of(d, lent);
     loans.held().iter().any(|x| is_loan(x, receiver, provider, uri)
-        && carries(x.operations, operation))
+        && operation.is_in(x.operations))
 }
 
 fn lent_any(d: Device, lent: [Loan; 128], receiver: Receiver, provider: u16, uri: u16) -> bool
@@ -523,30 +512,12 @@ fn is_full(d: Device, lent: [Loan; 128]) -> bool
     128 <= loans_of(d, lent).held().len()
 }
 
+// At the width of a receiver that an action names; the crate loans asks the same at a loan's width.
 fn is_loan(loan: &Loan, receiver: Receiver, provider: u16, uri: u16) -> bool
     ensures { result ≡ is_loan (receiver_of receiver) provider uri loan.now }
 {
-    ((loan.kind == kind(receiver)) & (u32::from(loan.receiver) == number(receiver)))
+    ((loan.kind == receiver.kind()) & (u32::from(loan.receiver) == receiver.number()))
         & ((loan.provider == provider) & (loan.uri == uri))
-}
-
-// A loan's kind of receiver.
-fn kind(receiver: Receiver) -> u8
-    ensures { result ≡ receiver_kind (receiver_of receiver) }
-{
-    match receiver {
-        Receiver::Instance(_) => 1,
-        Receiver::App(_) => 2,
-    }
-}
-
-fn number(receiver: Receiver) -> u32
-    ensures { result ≡ receiver_number (receiver_of receiver) }
-{
-    match receiver {
-        Receiver::Instance(n) => n,
-        Receiver::App(n) => n,
-    }
 }
 
 fn no_receiving_app(d: Device, receiver: Receiver) -> bool
@@ -567,7 +538,8 @@ fn no_receiving_instance(d: Device, receiver: Receiver) -> bool
     }
 }
 
-// At the width of a receiver: a number past 65,535 is no app's.
+// At the width of a receiver. `tables::has_app` at this width would have every other caller widen its number, here and
+// below.
 fn has_wide_app(apps: Apps, number: u32) -> bool
     ensures { result ≡ any (is_app number) (apps_in apps) }
 {

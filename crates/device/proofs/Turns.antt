@@ -11,7 +11,8 @@ use Rattle.rules.specs.ListsLaws.{and_left, and_right, and-false}
 use Rattle.device.specs.Rising.{few_rising}
 
 -- ---- the entries from place i on
-from-suc : {A : Type 0} (l : List A) (i : ℕ) (x : A) → i < length l → x ≡ get_or l i x → drop i l ≡ x ∷ drop (suc i) l
+pub from-suc : {A : Type 0} (l : List A) (i : ℕ) (x : A) → i < length l → x ≡ get_or l i x
+    → drop i l ≡ x ∷ drop (suc i) l
 from-suc [] i x h e = absurd (omega arith)
 from-suc (y ∷ l) zero x h e = ap (λ (z : _). z ∷ l) (sym e)
 from-suc (y ∷ l) (suc i) x h e = from-suc l i x (omega arith) e

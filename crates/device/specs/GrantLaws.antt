@@ -1,12 +1,10 @@
 -- A grant is good by the list of dangerous permissions exactly if it is by the definitions: what an app lists is at
 -- most 63, and so has its place in that list.
-use Rattle.std.specs.Prelude.{ℕ, zero, suc, ◌+◌, ◌-◌, ◌≤◌, ◌<◌, ◌≡◌, Bool, ◌&&◌, eqb, length, set, replicate}
-use Rattle.std.proofs.Common.{add-one, length-append}
-use Rattle.std.proofs.Math.Seq.{set-append_seam, append_snoc}
+use Rattle.std.specs.Prelude.{ℕ, zero, suc, ◌+◌, ◌≤◌, ◌<◌, ◌≡◌, Bool, ◌&&◌, eqb}
 use Rattle.std.proofs.Math.Path.{refl, sym, ap}
 use Rattle.std.proofs.Common.{◌∙◌, not-suc-le-zero, le_of_suc-le-suc, arith, eqb-true, leb-true}
 use Rattle.std.proofs.Math.Bool.{true, false}
-use mathlib.Core.List.{List, [], ◌∷◌, ◌++◌, map}
+use mathlib.Core.List.{List, [], map}
 use Rattle.std.proofs.Math.ListN.{get_or}
 use Rattle.manifest.specs.declared.Resource.{Resource}
 use Rattle.manifest.specs.Good.{good, good_use, uses_rise, at_most}
@@ -14,8 +12,7 @@ use Rattle.manifest.specs.GoodLaws.{good-parts, all-rising}
 use Rattle.rules.specs.declared.Definition.{Definition}
 use Rattle.rules.specs.declared.Part.{Part}
 use Rattle.rules.specs.Lists.{all, mem, test}
-use Rattle.rules.specs.ListsLaws.{and_right, all_any, length-map, map-append}
-use Rattle.state.specs.Listed.{padded}
+use Rattle.rules.specs.ListsLaws.{and_right, all_any}
 use Rattle.rules.specs.View.{App}
 use Rattle.rules.specs.Permissions.{known, dangerous}
 use Rattle.rules.specs.Refusals.{grantable}
@@ -36,32 +33,6 @@ said_at f z k (suc n) (suc i) h = said_at f z (suc k) n i (le_of_suc-le-suc h) �
 pub number_at : (n i : ℕ) → i < n → get_or (numbers_from 0 n) i 0 ≡ i
 number_at n i h =
     ap (λ (l : List ℕ). get_or l i 0) (sym (map_same (numbers_from 0 n))) ∙ said_at (λ x. x) 0 0 n i h ∙ omega arith
-
--- one place more of an array of n places that is filled from the front
-numbers-more : (k p : ℕ) → numbers_from k (suc p) ≡ numbers_from k p ++ ((k + p) ∷ [])
-unfolding numbers_from
-numbers-more k zero = ap (λ (n : ℕ). n ∷ []) (omega arith)
-numbers-more k (suc p) =
-    ap (λ (l : List ℕ). k ∷ l)
-    (numbers-more (suc k) p ∙ ap (λ (n : ℕ). numbers_from (suc k) p ++ (n ∷ [])) (omega arith))
-
-numbers-long : (k p : ℕ) → length (numbers_from k p) ≡ p
-unfolding numbers_from
-numbers-long k zero = refl
-numbers-long k (suc p) = ap suc (numbers-long (suc k) p)
-
-pub more-said : {B : Type 0} (f : ℕ → B) (z : B) (n p : ℕ) → p < n
-    → set (padded z n (map f (numbers_from 0 p))) p (f p) ≡ padded z n (map f (numbers_from 0 (p + 1)))
-more-said f z n p h =
-    let l = map f (numbers_from 0 p) in
-    let long : length l ≡ p = length-map f (numbers_from 0 p) ∙ numbers-long 0 p in
-    let rest : n - length l ≡ suc (n - length (l ++ (f p ∷ []))) = rw (length-append, long) (omega arith) in
-    let more : map f (numbers_from 0 (p + 1)) ≡ l ++ (f p ∷ []) =
-    rw (add-one p, numbers-more 0 p, map-append f (numbers_from 0 p))
-    (ap (λ (i : ℕ). l ++ (f i ∷ [])) (omega arith)) in
-    rw (more, rest) (ap (λ (i : ℕ). set (l ++ replicate (suc (n - length (l ++ (f p ∷ [])))) z) i (f p)) (sym long)
-    ∙ set-append_seam l z (replicate (n - length (l ++ (f p ∷ []))) z) (f p)
-    ∙ sym (append_snoc l (f p) (replicate (n - length (l ++ (f p ∷ []))) z)))
 
 -- ---- the grants
 -- what is listed is at most 63

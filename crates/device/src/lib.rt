@@ -73,6 +73,8 @@ fn apps_padded(t: &Apps) -> bool
     padded(t, |a| zero_app(a))
 }
 
+// One function for each type: a generic one would have to be told, at each call, that a comparison with the type's
+// default is the zero test of the contract, which the check finds alone here.
 fn definitions_padded(t: &Definitions) -> bool
     ensures { result ≡ pads is_zero_definition 256 t.now.entries t.now.count }
 {
@@ -122,6 +124,7 @@ fn bytes_padded<const ROOM: usize>(t: &Table<u8, ROOM>) -> bool
     padded(t, |n| *n == 0)
 }
 
+// Field by field, and no derived `==`: the definition asks for lists that are padded, and not for equal arrays.
 fn zero_app(a: &App) -> bool
     ensures { result ≡ is_zero_app a.now }
 {
@@ -353,20 +356,13 @@ fn part_at(parts: Parts, number: u16) -> Part
 fn dangerous_in(apps: Apps, definitions: Definitions) -> [bool; 64]
     ensures { result ≡ dangerous_in (rows_in apps) (definitions_in definitions) }
 {
-    let mut dangerous = [false; 64];
-    for p in 0..64u16 {
-        dangerous[usize::from(p)] = is_dangerous(apps, definitions, p);
-    }
-    dangerous
+    std::array::from_fn(|p| is_dangerous(apps, definitions, p as u16))
 }
 
 fn is_dangerous(apps: Apps, definitions: Definitions, permission: u16) -> bool
     ensures { result ≡ is_dangerous (rows_in apps) (definitions_in definitions) permission }
 {
-    match tables::known_of(apps, definitions, permission) {
-        Some(known) => known.level == 1,
-        None => false,
-    }
+    tables::known_of(apps, definitions, permission).is_some_and(|k| k.level == 1)
 }
 
 // The app's grants are listed, dangerous permissions.
@@ -389,7 +385,7 @@ fn grant_good(a: &App, dangerous: [bool; 64], permission: u8) -> bool
 fn bytes_are_groups(t: &Table<u8, 15>) -> bool
     ensures { result ≡ all is_group (list_in t.now) }
 {
-    t.held().iter().all(|n| (1 <= *n) & (*n <= 15))
+    t.held().iter().all(|n| (1..=15).contains(n))
 }
 
 fn bytes_distinct<const ROOM: usize>(t: &Table<u8, ROOM>) -> bool
@@ -421,16 +417,13 @@ fn instances_good(t: &Instances, parts: Parts) -> bool
 fn instance_good(i: &Instance, parts: Parts) -> bool
     ensures { result ≡ good_instance (parts_in parts) i.now }
 {
-    ((1 <= i.number) & (i.number <= 64)) && can_run(parts, i.component)
+    (1..=64).contains(&i.number) && can_run(parts, i.component)
 }
 
 fn can_run(parts: Parts, component: u16) -> bool
     ensures { result ≡ test (part_at (parts_in parts) component) (λ k. not (is_provider k.component)) }
 {
-    match tables::part_of(parts, component) {
-        Some(part) => part.component.kind != 4,
-        None => false,
-    }
+    tables::part_of(parts, component).is_some_and(|k| k.component.kind != 4)
 }
 
 // ---- loans
@@ -458,7 +451,7 @@ fn loan_good(x: &Loan, d: &Device) -> bool
         ≡ good_loan (rows_in d.now.apps) (parts_in d.now.parts) (resources_in d.now.resources)
         (instances_in d.now.instances) x.now }
 {
-    ((1 <= x.operations) & (x.operations <= 3))
+    (1..=3).contains(&x.operations)
         && live(x, d)
         && tables::has_resource(d.resources, x.provider, x.uri)
         && shares(d.parts, x.provider)
@@ -467,10 +460,9 @@ fn loan_good(x: &Loan, d: &Device) -> bool
 fn shares(parts: Parts, provider: u16) -> bool
     ensures { result ≡ test (part_at (parts_in parts) provider) is_sharing_provider }
 {
-    match tables::part_of(parts, provider) {
-        Some(part) => (part.component.kind == 4) & (part.component.shares == 1),
-        None => false,
-    }
+    tables::part_of(parts, provider).is_some_and(|k| {
+        (k.component.kind == 4) & (k.component.shares == 1)
+    })
 }
 
 // The receiver is looked for in the table of its kind only.
@@ -504,6 +496,8 @@ fn padded<T, const ROOM: usize, F: Fn(&T) -> bool>(table: &Table<T, ROOM>, is_em
     let Some(unused) = table.entries.get(table.count..) else {
         return false;
     };
+    // A `for`, here and in `distinct`, and no `all` or `any`: of a closure that calls a parameter the check learns too
+    // little.
     for entry in unused {
         if !is_empty(entry) {
             return false;
@@ -512,7 +506,7 @@ fn padded<T, const ROOM: usize, F: Fn(&T) -> bool>(table: &Table<T, ROOM>, is_em
     true
 }
 
-// No two entries are the same.
+// No two entries are the same. The list is taken apart from its front, as the definition does it.
 fn distinct<T, F: Fn(&T, &T) -> bool>(list: &[T], same: F) -> bool
     requires { F.IsAlwaysCallable same }
     ensures { (equal : T → T → Bool) → TellsSame F.Fn same equal → result ≡ distinct equal list.now }

@@ -3,19 +3,18 @@
 use Rattle.std.specs.Prelude.{ℕ, Bool, cond, List, [], ◌∷◌, length, eqb, Option, Some, None}
 use Rattle.manifest.specs.Layout.{manifest_of, u8_at, u16_at, u32_at}
 use Rattle.rules.specs.Lists.{find, test, map_option}
-use Rattle.rules.specs.Action.{an_instance, an_app, install, uninstall, grant, revoke, grant_group, revoke_group, start}
+use Rattle.rules.specs.Action.{install, uninstall, grant, revoke, grant_group, revoke_group, start}
 use Rattle.rules.specs.Action.{stop}
 use Rattle.rules.specs.Action.{lend, withdraw, read, ask, malformed, Action, on_apps, on_grants, on_runs, write}
 use Rattle.rules.specs.Action.{on_loans}
 use Rattle.rules.specs.Action.{query}
 use Rattle.rules.specs.Record.{Fields, forms, fitting}
-use Rattle.tables.specs.Looking.{option_of}
+use Rattle.tables.specs.declared.Receiver.TheVariants.{Instance, App}
+use Rattle.tables.specs.Looking.{option_of, receiver_of}
 use Rattle.loans.specs.declared.Record.{Record}
 use Rattle.loans.specs.declared.Asked.{Asked}
 use Rattle.loans.specs.declared.Asked.TheVariants.{Install, Uninstall, Grant, Revoke, GrantGroup, RevokeGroup}
-use Rattle.loans.specs.declared.Asked.TheVariants.{Start, Stop, Read, Write, LendToInstance, LendToApp}
-use Rattle.loans.specs.declared.Asked.TheVariants.{Withdraw}
-use Rattle.loans.specs.declared.Asked.TheVariants.{Ask}
+use Rattle.loans.specs.declared.Asked.TheVariants.{Start, Stop, Read, Write, Lend, Withdraw, Ask}
 
 -- code u8, a u8, b u16, c u16, d u16, e u32
 abbrev pub record_of : List ℕ → Record
@@ -66,8 +65,8 @@ cases =
     8 asks (λ r. Stop r.c) ∷
     9 asks (λ r. Read r.b r.c r.d) ∷
     10 asks (λ r. Write r.b r.c r.d r.e) ∷
-    11 asks (λ r. LendToInstance r.a r.b r.c r.d r.e) ∷
-    12 asks (λ r. LendToApp r.a r.b r.c r.d r.e) ∷
+    11 asks (λ r. Lend r.a r.b r.c r.d (Instance r.e)) ∷
+    12 asks (λ r. Lend r.a r.b r.c r.d (App r.e)) ∷
     13 asks (λ r. Withdraw r.a r.b r.c r.d) ∷
     14 asks (λ r. Ask r.b r.c) ∷ []
 
@@ -90,8 +89,7 @@ action_from (Start c n) m = on_runs (start c n)
 action_from (Stop n) m = on_runs (stop n)
 action_from (Read p n u) m = query (read p n u)
 action_from (Write p n u x) m = write p n u x
-action_from (LendToInstance o p n u r) m = on_loans (lend o p n u (an_instance r))
-action_from (LendToApp o p n u r) m = on_loans (lend o p n u (an_app r))
+action_from (Lend o p n u r) m = on_loans (lend o p n u (receiver_of r))
 action_from (Withdraw o p n u) m = on_loans (withdraw o p n u)
 action_from (Ask b p) m = query (ask b p)
 

@@ -4,14 +4,12 @@ use Rattle.std.specs.Prelude.{ℕ, Bool, not, ◌&&◌, cond, List, [], ◌∷�
 use Rattle.rules.specs.declared.Loan.{Loan}
 use Rattle.rules.specs.declared.Part.{Part}
 use Rattle.rules.specs.Lists.{any}
-use Rattle.rules.specs.Action.{Receiver, an_instance, an_app, Op, reading, writing, carries}
+use Rattle.rules.specs.Action.{Receiver, an_instance, Op, reading, writing, carries}
 use Rattle.state.specs.declared.Table.{Table}
 use Rattle.state.specs.Listed.{table_of, list_in}
 use Rattle.state.specs.Stored.{zero_loan}
 use Rattle.state.specs.Tables.{is_to, is_on, is_loan}
 use Rattle.state.specs.Effects.{loan_of, widened, ends_with}
-use Rattle.loans.specs.declared.Receiver.{Receiver as CodeReceiver}
-use Rattle.loans.specs.declared.Receiver.TheVariants.{Instance, App}
 
 abbrev pub Loans : Type 0
 Loans = Table Loan 128
@@ -21,10 +19,6 @@ loans_in t = list_in t
 
 abbrev pub loans_table : List Loan → Loans
 loans_table l = table_of zero_loan 128 l
-
-abbrev pub receiver_of : CodeReceiver → Receiver
-receiver_of (Instance n) = an_instance n
-receiver_of (App b) = an_app b
 
 -- an answer for each operation
 abbrev pub by_op : (reads writes : Bool) → Op → Bool

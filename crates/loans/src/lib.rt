@@ -2,17 +2,16 @@
 //! Every function answers for every input, also a table with a count past its array or garbage past its count.
 #![tactic(auto)]
 
-ghost use Rattle.std.specs.Prelude.{◌≡◌, map, ◌≤◌};
-ghost use Rattle.manifest.specs.Layout.{u16_at, u32_at};
+ghost use Rattle.std.specs.Prelude.{◌≡◌, map};
 ghost use Rattle.rules.specs.Lists.{any, keep};
-ghost use Rattle.rules.specs.Action.{carries, operations_of, receiver_kind, receiver_number};
+ghost use Rattle.rules.specs.Action.{operations_of};
 ghost use Rattle.state.specs.Tables.{is_to, is_on, is_loan, lent_in};
 ghost use Rattle.state.specs.Effects.{loan_of, with_operations, kept, carries_any, reduce, widened};
 ghost use Rattle.tables.specs.Closures.{Gives};
 ghost use Rattle.tables.specs.Held.{parts_in};
-ghost use Rattle.tables.specs.Looking.{op_of};
+ghost use Rattle.tables.specs.Looking.{op_of, receiver_of};
 ghost use Rattle.loans.specs.Asked.{record_of, well_formed, asked_by, asked_of};
-ghost use Rattle.loans.specs.Held.{loans_in, loans_table, receiver_of, by_op, appended, lend_in};
+ghost use Rattle.loans.specs.Held.{loans_in, loans_table, by_op, appended, lend_in};
 ghost use Rattle.loans.specs.Held.{keeps_stop, keeps_uninstall, keeps_withdraw};
 ghost use Rattle.loans.specs.Lent.{no_loans, lent_from, written, first_change, after_change, changed_in};
 
@@ -65,19 +64,12 @@ pub enum Asked {
         uri: u16,
         value: u32,
     },
-    LendToInstance {
+    Lend {
         operations: u8,
         provider: u16,
         giver: u16,
         uri: u16,
-        receiver: u32,
-    },
-    LendToApp {
-        operations: u8,
-        provider: u16,
-        giver: u16,
-        uri: u16,
-        receiver: u32,
+        receiver: tables::Receiver<u32>,
     },
     Withdraw {
         operations: u8,
@@ -95,33 +87,7 @@ pub enum Asked {
 pub type Loans = Table<Loan, 128>;
 
 /// To whom a loan is.
-#[derive(Clone, Copy, PartialEq, Eq)]
-pub enum Receiver {
-    Instance(u16),
-    App(u16),
-}
-
-impl Receiver {
-    #[tactic(auto, unfolding(rules::specs::Action::receiver_kind))]
-    fn kind(self) -> u8
-        ensures { result ≡ receiver_kind (receiver_of self) }
-    {
-        match self {
-            Receiver::Instance(_) => 1,
-            Receiver::App(_) => 2,
-        }
-    }
-
-    #[tactic(auto, unfolding(rules::specs::Action::receiver_number))]
-    fn number(self) -> u16
-        ensures { result ≡ receiver_number (receiver_of self) }
-    {
-        match self {
-            Receiver::Instance(number) => number,
-            Receiver::App(number) => number,
-        }
-    }
-}
+pub type Receiver = tables::Receiver<u16>;
 
 /// A copy of a lent table: its first 128 records, zero where one is missing, and how many it has.
 // `length` stays beside the array: it is the slice's own, also past 128, and `lent_from` in `copy_out` says both.
@@ -159,16 +125,18 @@ pub fn decode(action: &[u8]) -> Option<Asked>
     None
 }
 
+// Little-endian; a byte past the end is 0.
 fn record_of(s: &[u8]) -> Record
     ensures { result ≡ record_of s.now }
 {
+    let at = |place: usize| manifest::byte_at(s, place);
     Record {
-        code: manifest::byte_at(s, 0),
-        a: manifest::byte_at(s, 1),
-        b: u16_at(s, 2),
-        c: u16_at(s, 4),
-        d: u16_at(s, 6),
-        e: u32_at(s, 8),
+        code: at(0),
+        a: at(1),
+        b: u16::from_le_bytes([at(2), at(3)]),
+        c: u16::from_le_bytes([at(4), at(5)]),
+        d: u16::from_le_bytes([at(6), at(7)]),
+        e: u32::from_le_bytes([at(8), at(9), at(10), at(11)]),
     }
 }
 
@@ -242,19 +210,19 @@ fn asked_by(r: Record) -> Option<Asked>
             uri: r.d,
             value: r.e,
         },
-        11 => Asked::LendToInstance {
+        11 => Asked::Lend {
             operations: r.a,
             provider: r.b,
             giver: r.c,
             uri: r.d,
-            receiver: r.e,
+            receiver: tables::Receiver::Instance(r.e),
         },
-        12 => Asked::LendToApp {
+        12 => Asked::Lend {
             operations: r.a,
             provider: r.b,
             giver: r.c,
             uri: r.d,
-            receiver: r.e,
+            receiver: tables::Receiver::App(r.e),
         },
         13 => Asked::Withdraw {
             operations: r.a,
@@ -268,21 +236,6 @@ fn asked_by(r: Record) -> Option<Asked>
         },
         _ => return None,
     })
-}
-
-// Little-endian; a byte past the end is 0.
-fn u16_at(s: &[u8], at: usize) -> u16
-    requires { at ≤ 100 }
-    ensures { result ≡ u16_at s.now at }
-{
-    u16::from(manifest::byte_at(s, at)) + 256 * u16::from(manifest::byte_at(s, at + 1))
-}
-
-fn u32_at(s: &[u8], at: usize) -> u32
-    requires { at ≤ 98 }
-    ensures { result ≡ u32_at s.now at }
-{
-    u32::from(u16_at(s, at)) + 65536 * u32::from(u16_at(s, at + 2))
 }
 
 // ---- loans by value: receiver, provider and uri stay three parameters, as a struct of them makes each contract longer
@@ -299,7 +252,7 @@ pub fn lends(
     ensures { result ≡ lent_in (loans_in loans) (receiver_of receiver) provider uri (op_of operation) }
 {
     loans.held().iter().any(|x| is_loan(*x, receiver, provider, uri)
-        && carries(operation, x.operations))
+        && operation.is_in(x.operations))
 }
 
 /// Is there a loan to a receiver on a resource?
@@ -459,7 +412,6 @@ fn is_loan(loan: Loan, receiver: Receiver, provider: u16, uri: u16) -> bool
     is_to(loan, receiver) & is_on(loan, provider, uri)
 }
 
-#[tactic(auto, unfolding(state::specs::Tables::is_to))]
 fn is_to(loan: Loan, receiver: Receiver) -> bool
     ensures { result ≡ is_to (receiver_of receiver) loan }
 {
@@ -473,21 +425,11 @@ fn is_on(loan: Loan, provider: u16, uri: u16) -> bool
     (loan.provider == provider) & (loan.uri == uri)
 }
 
-#[tactic(auto, unfolding(rules::specs::Action::carries))]
-fn carries(operation: Operation, operations: u8) -> bool
-    ensures { result ≡ carries (op_of operation) operations }
-{
-    match operation {
-        Operation::Read => matches!(operations, 1 | 3),
-        Operation::Write => matches!(operations, 2 | 3),
-    }
-}
-
 #[tactic(auto, unfolding(state::specs::Effects::carries_any))]
 fn carries_any(loan: Loan) -> bool
     ensures { result ≡ carries_any loan }
 {
-    carries(Operation::Read, loan.operations) | carries(Operation::Write, loan.operations)
+    Operation::Read.is_in(loan.operations) | Operation::Write.is_in(loan.operations)
 }
 
 fn operations_of(reads: bool, writes: bool) -> u8
@@ -506,7 +448,6 @@ fn with_operations(loan: Loan, reads: bool, writes: bool) -> Loan
     }
 }
 
-#[tactic(auto, unfolding(state::specs::Effects::loan_of))]
 fn loan_of(receiver: Receiver, provider: u16, uri: u16, operations: u8) -> Loan
     ensures { result ≡ loan_of (receiver_of receiver) provider uri operations }
 {
@@ -524,10 +465,9 @@ fn widened(loan: Loan, receiver: Receiver, provider: u16, uri: u16, operations: 
     ensures { result ≡ widened (receiver_of receiver) provider uri operations loan }
 {
     let same = is_loan(loan, receiver, provider, uri);
-    let reads = carries(Operation::Read, loan.operations)
-        | (same & carries(Operation::Read, operations));
-    let writes = carries(Operation::Write, loan.operations)
-        | (same & carries(Operation::Write, operations));
+    let reads = Operation::Read.is_in(loan.operations) | (same & Operation::Read.is_in(operations));
+    let writes = Operation::Write.is_in(loan.operations)
+        | (same & Operation::Write.is_in(operations));
     with_operations(loan, reads, writes)
 }
 
@@ -536,8 +476,8 @@ fn widened(loan: Loan, receiver: Receiver, provider: u16, uri: u16, operations: 
 fn keep_operations(loan: Loan, reads: bool, writes: bool) -> Loan
     ensures { result ≡ kept (λ x op. by_op reads writes op) loan }
 {
-    let carries_read = carries(Operation::Read, loan.operations);
-    let carries_write = carries(Operation::Write, loan.operations);
+    let carries_read = Operation::Read.is_in(loan.operations);
+    let carries_write = Operation::Write.is_in(loan.operations);
     with_operations(loan, carries_read & reads, carries_write & writes)
 }
 
@@ -563,7 +503,7 @@ fn kept_withdraw(loan: Loan, provider: u16, uri: u16, operations: u8) -> Loan
     ensures { result ≡ kept (keeps_withdraw provider uri operations) loan }
 {
     let on = is_on(loan, provider, uri);
-    let reads = !(on & carries(Operation::Read, operations));
-    let writes = !(on & carries(Operation::Write, operations));
+    let reads = !(on & Operation::Read.is_in(operations));
+    let writes = !(on & Operation::Write.is_in(operations));
     keep_operations(loan, reads, writes)
 }

@@ -196,7 +196,8 @@ module _ (s : State) (image : Bool) (z : List ℕ) (v : ℕ) where
       resources =
           let f : length (s.resources ++ m.resources) ≤ 128 = unfold next resources_after in fits.resources in
           let l = length-append s.resources m.resources in
-          all-appended 128 resources_table (λ x. x) (appended 128) (entry-more zero_resource 128) s.resources m.resources
+          all-appended 128 resources_table (λ x. x) (appended 128) (entry-more zero_resource 128)
+          s.resources m.resources
           (omega arith)
           ∙ ap (λ (r : List Resource). resources_table (s.resources ++ r)) (map-itself m.resources)
 

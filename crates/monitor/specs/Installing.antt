@@ -7,7 +7,7 @@ use Rattle.manifest.specs.Layout.{u8_at, define_at, component_at, resource_at, e
 use Rattle.state.specs.declared.App.{App}
 use Rattle.state.specs.declared.Device.{Device}
 use Rattle.state.specs.Tables.{Row}
-use Rattle.state.specs.Listed.{appended}
+use Rattle.state.specs.Listed.{Definitions, Parts, Resources, appended}
 use Rattle.state.specs.Stored.{app_from}
 
 -- each entry of a list put to a table in turn
@@ -53,6 +53,22 @@ pub record Within (m : Sections) (n : ℕ) : Type 0 where
   pub components : m.components.first + 8 * m.components.count ≤ n
   pub resources : m.resources.first + 8 * m.resources.count ≤ n
 
+-- the tables with an entry more for each entry of a section
+module _ (bytes : List ℕ) (m : Sections) where
+  abbrev pub definitions_made : Definitions → Definitions
+  definitions_made d =
+      append_all (λ t x. appended 256 t (record { app = m.app; define = x })) d
+      (entries (define_at bytes) 3 m.defines.first m.defines.count)
+
+  abbrev pub parts_made : Parts → Parts
+  parts_made p =
+      append_all (λ t x. appended 64 t (record { app = m.app; component = x })) p
+      (entries (component_at bytes) 8 m.components.first m.components.count)
+
+  abbrev pub resources_made : Resources → Resources
+  resources_made r =
+      append_all (appended 128) r (entries (resource_at bytes) 8 m.resources.first m.resources.count)
+
 module _ (bytes : List ℕ) (image : Bool) (m : Sections) (d : Device) where
   abbrev pub app_made : App
   app_made =
@@ -63,15 +79,9 @@ module _ (bytes : List ℕ) (image : Bool) (m : Sections) (d : Device) where
   install_made =
       record {
         apps = appended 16 d.apps app_made;
-        definitions =
-            append_all (λ t x. appended 256 t (record { app = m.app; define = x })) d.definitions
-            (entries (define_at bytes) 3 m.defines.first m.defines.count);
-        parts =
-            append_all (λ t x. appended 64 t (record { app = m.app; component = x })) d.parts
-            (entries (component_at bytes) 8 m.components.first m.components.count);
-        resources =
-            append_all (appended 128) d.resources
-            (entries (resource_at bytes) 8 m.resources.first m.resources.count);
+        definitions = definitions_made bytes m d.definitions;
+        parts = parts_made bytes m d.parts;
+        resources = resources_made bytes m d.resources;
         instances = d.instances;
         lent = d.lent;
       }

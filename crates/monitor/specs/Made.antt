@@ -8,19 +8,17 @@ use Rattle.state.specs.declared.Device.{Device}
 use Rattle.state.specs.Tables.{owned_by}
 use Rattle.tables.specs.declared.Change.{Change}
 use Rattle.tables.specs.declared.Change.TheVariants.{AddGrant, TakeGrant, AddGroup, TakeGroup}
+use Rattle.tables.specs.declared.Receiver.{Receiver}
+use Rattle.tables.specs.declared.Receiver.TheVariants.{Instance, App}
 use Rattle.tables.specs.Finding.{is_app}
 use Rattle.tables.specs.Held.{apps_in, definitions_in, parts_in, resources_in}
 use Rattle.tables.specs.Held.{apps_table, definitions_table, parts_table, resources_table}
 use Rattle.tables.specs.Changing.{write_value, append_instance, remove_instance, change_app, drop_grants}
-use Rattle.loans.specs.declared.Receiver.{Receiver}
-use Rattle.loans.specs.declared.Receiver.TheVariants.{Instance, App}
-use Rattle.answers.specs.declared.Receiver.{Receiver as WideReceiver}
-use Rattle.answers.specs.declared.Receiver.TheVariants as Wide
 
 -- the receiver of a loan, where its number fits a loan's field
-abbrev pub narrowed : WideReceiver → Option Receiver
-narrowed (Wide.Instance n) = cond (leb n 65535) (Some (Instance n)) None
-narrowed (Wide.App b) = cond (leb b 65535) (Some (App b)) None
+abbrev pub narrowed : Receiver ℕ → Option (Receiver ℕ)
+narrowed (Instance n) = cond (leb n 65535) (Some (Instance n)) None
+narrowed (App b) = cond (leb b 65535) (Some (App b)) None
 
 -- ---- one table anew, the rest as it was
 abbrev pub with_apps : Device → Apps → Device

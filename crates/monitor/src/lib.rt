@@ -1,26 +1,26 @@
 //! One step of the monitor: the validity test, the answer, and the tables after it.
 #![tactic(auto)]
 
-ghost use Rattle.std.specs.Prelude.{ℕ, ◌≡◌, true, [], ◌+◌, ◌*◌, ◌^◌, ◌≤◌, ◌<◌, length};
-ghost use Rattle.manifest.specs.Layout.{u8_at, define_at, component_at, resource_at, entries, manifest_of};
+ghost use Rattle.std.specs.Prelude.{ℕ, ◌≡◌, true, [], ◌+◌, ◌*◌, ◌^◌, ◌<◌, length};
+ghost use Rattle.manifest.specs.Layout.{u8_at, entries, manifest_of};
 ghost use Rattle.rules.specs.Action.{on_apps, install, uninstall, on_grants};
 ghost use Rattle.rules.specs.Action.{on_runs, start, stop, write, on_loans, lend, withdraw};
 ghost use Rattle.state.specs.Stored.{app_from, model_of, valid_stored};
 ghost use Rattle.state.specs.Listed.{appended};
+ghost use Rattle.tables.specs.Looking.{receiver_of};
 ghost use Rattle.loans.specs.Asked.{action_from};
-ghost use Rattle.answers.specs.Answering.{receiver_of as wide_receiver};
 ghost use Rattle.monitor.specs.Stepped.{answer_to, stepped_by, stepped};
 ghost use Rattle.state.specs.Step.{step_answer, step_device, step_lent};
 ghost use Rattle.monitor.specs.Made.{asking, with_lent, grant_made, write_made, start_made};
 ghost use Rattle.monitor.specs.Made.{stop_made, uninstall_made, narrowed};
-ghost use Rattle.monitor.specs.Installing.{append_all, Steps, new_row, add_use, Within, install_made};
+ghost use Rattle.monitor.specs.Installing.{append_all, Steps, new_row, add_use, Within};
+ghost use Rattle.monitor.specs.Installing.{definitions_made, parts_made, resources_made, install_made};
 
-use answers::Receiver as WideReceiver;
-use loans::{Asked, Loans, Receiver};
+use loans::{Asked, Loans};
 use manifest::{Section, Sections};
 use rules::{Answer, Definition, Done, Instance, Loan, Part, Reason};
 use state::{App, Definitions, Device, Parts, Resources, Table};
-use tables::Change;
+use tables::{Change, Receiver};
 
 /// What a step leaves, and what comes back.
 #[derive(Clone, Copy)]
@@ -139,34 +139,13 @@ fn on_asked(on: Valid, asked: Asked, bytes: &[u8]) -> Stepped
             uri,
             value,
         } => on_write(on, provider, instance, uri, value),
-        Asked::LendToInstance {
+        Asked::Lend {
             operations,
             provider,
             giver,
             uri,
             receiver,
-        } => on_lend(
-            on,
-            operations,
-            provider,
-            giver,
-            uri,
-            WideReceiver::Instance(receiver),
-        ),
-        Asked::LendToApp {
-            operations,
-            provider,
-            giver,
-            uri,
-            receiver,
-        } => on_lend(
-            on,
-            operations,
-            provider,
-            giver,
-            uri,
-            WideReceiver::App(receiver),
-        ),
+        } => on_lend(on, operations, provider, giver, uri, receiver),
         Asked::Withdraw {
             operations,
             provider,
@@ -188,7 +167,7 @@ fn on_install(on: Valid, image: bool, bytes: &[u8]) -> Stepped
         Ok(_) => match manifest::check(bytes) {
             None => on.unchanged(answer),
             Some(sections) => Stepped {
-                device: install_made(device, image, sections, bytes),
+                device: Found { bytes, sections }.install_made(device, image),
                 lent,
                 answer,
             },
@@ -204,12 +183,7 @@ fn on_uninstall(on: Valid, app: u16) -> Stepped
         Err(_) => on.unchanged(answer),
         Ok(_) => {
             let left = loans::reduce_uninstall(on.loans(), on.device.parts, app);
-            let lent = left.entries;
-            Stepped {
-                device: uninstall_made(on.device, app, left.count),
-                lent,
-                answer,
-            }
+            with_loans(uninstall_made(on.device, app), left, answer)
         }
     }
 }
@@ -221,6 +195,7 @@ fn on_change(on: Valid, app: u16, change: Change, member: u16) -> Stepped
     let answer = change_answer(device, app, change, member);
     match answer {
         Err(_) => on.unchanged(answer),
+        // A grant that is done is of a number that fits: `try_from` would have a branch that is never taken.
         Ok(_) => Stepped {
             device: change_made(device, app, change, member as u8),
             lent,
@@ -247,6 +222,7 @@ fn on_start(on: Valid, component: u16, caller: u16) -> Stepped
     let answer = answers::start(device, component, caller);
     match answer {
         Err(_) => on.unchanged(answer),
+        // So is the number of a start that is done.
         Ok(Done { value, .. }) => Stepped {
             device: start_made(device, component, value as u8),
             lent,
@@ -263,12 +239,7 @@ fn on_stop(on: Valid, instance: u16) -> Stepped
         Err(_) => on.unchanged(answer),
         Ok(_) => {
             let left = loans::reduce_stop(on.loans(), instance);
-            let lent = left.entries;
-            Stepped {
-                device: stop_made(on.device, instance, left.count),
-                lent,
-                answer,
-            }
+            with_loans(stop_made(on.device, instance), left, answer)
         }
     }
 }
@@ -295,10 +266,10 @@ fn on_lend(
     provider: u16,
     giver: u16,
     uri: u16,
-    receiver: WideReceiver,
+    receiver: Receiver<u32>,
 ) -> Stepped
     ensures { result
-        ≡ stepped_by on.device on.lent (on_loans (lend operations provider giver uri (wide_receiver receiver))) }
+        ≡ stepped_by on.device on.lent (on_loans (lend operations provider giver uri (receiver_of receiver))) }
 {
     let answer = answers::lend(
         on.device, on.lent, operations, provider, giver, uri, receiver,
@@ -306,15 +277,7 @@ fn on_lend(
     match (answer, narrow(receiver)) {
         (Ok(_), Some(to)) => {
             let left = loans::lend(on.loans(), to, provider, uri, operations);
-            let lent = left.entries;
-            Stepped {
-                device: Device {
-                    lent: left.count,
-                    ..on.device
-                },
-                lent,
-                answer,
-            }
+            with_loans(on.device, left, answer)
         }
         _ => on.unchanged(answer),
     }
@@ -328,26 +291,30 @@ fn on_withdraw(on: Valid, operations: u8, provider: u16, instance: u16, uri: u16
         Err(_) => on.unchanged(answer),
         Ok(_) => {
             let left = loans::reduce_withdraw(on.loans(), provider, uri, operations);
-            let lent = left.entries;
-            Stepped {
-                device: Device {
-                    lent: left.count,
-                    ..on.device
-                },
-                lent,
-                answer,
-            }
+            with_loans(on.device, left, answer)
         }
     }
 }
 
+// A device with the loans that are left, and the answer.
+fn with_loans(d: Device, left: Loans, answer: Answer) -> Stepped
+    ensures { result ≡ record { device = with_lent d left.count; lent = left.entries; answer = answer } }
+{
+    let Table { entries, count } = left;
+    Stepped {
+        device: Device { lent: count, ..d },
+        lent: entries,
+        answer,
+    }
+}
+
 // The receiver in the width of a loan's field, where its number fits.
-fn narrow(receiver: WideReceiver) -> Option<Receiver>
+fn narrow(receiver: Receiver<u32>) -> Option<Receiver<u16>>
     ensures { result ≡ narrowed receiver }
 {
     match receiver {
-        WideReceiver::Instance(n) => Some(Receiver::Instance(u16::try_from(n).ok()?)),
-        WideReceiver::App(n) => Some(Receiver::App(u16::try_from(n).ok()?)),
+        Receiver::Instance(n) => Some(Receiver::Instance(u16::try_from(n).ok()?)),
+        Receiver::App(n) => Some(Receiver::App(u16::try_from(n).ok()?)),
     }
 }
 
@@ -380,19 +347,17 @@ fn start_made(d: Device, component: u16, number: u8) -> Device
     }
 }
 
-// The loans left are handed to it, for their count.
-fn stop_made(d: Device, instance: u16, count: usize) -> Device
-    ensures { result ≡ stop_made d count instance }
+fn stop_made(d: Device, instance: u16) -> Device
+    ensures { result ≡ stop_made d d.lent instance }
 {
     Device {
         instances: tables::remove_instance(d.instances, instance),
-        lent: count,
         ..d
     }
 }
 
-fn uninstall_made(d: Device, app: u16, count: usize) -> Device
-    ensures { result ≡ uninstall_made d count app }
+fn uninstall_made(d: Device, app: u16) -> Device
+    ensures { result ≡ uninstall_made d d.lent app }
 {
     let left = tables::remove_app(d.apps, app);
     Device {
@@ -400,36 +365,83 @@ fn uninstall_made(d: Device, app: u16, count: usize) -> Device
         definitions: tables::remove_definitions(d.definitions, app),
         parts: tables::remove_parts(d.parts, app),
         resources: tables::remove_resources(d.resources, d.parts, app),
-        lent: count,
-        ..d
-    }
-}
-
-fn install_made(d: Device, image: bool, sections: Sections, s: &[u8]) -> Device
-    requires { Within sections (length s.now) }
-    ensures { result ≡ install_made s.now image sections d }
-{
-    let mut apps = d.apps;
-    apps.push(app_made(image, sections, s));
-    Device {
-        apps,
-        definitions: add_definitions(d.definitions, sections.app, sections.defines, s),
-        parts: add_parts(d.parts, sections.app, sections.components, s),
-        resources: add_resources(d.resources, sections.resources, s),
         ..d
     }
 }
 
 // ---- the entries of a manifest's sections
 
-fn app_made(image: bool, sections: Sections, s: &[u8]) -> App
-    requires { Within sections (length s.now) }
-    ensures { result
-        ≡ append_all add_use (app_from (new_row sections.app sections.signer image []))
-        (entries (u8_at s.now) 1 sections.uses.first sections.uses.count) }
-{
-    let a = new_app(sections.app, sections.signer, image);
-    add_uses(a, sections.uses, s)
+// A manifest's bytes, and the sections found in them.
+#[derive(Clone, Copy)]
+struct Found<'a> {
+    bytes: &'a [u8],
+    sections: Sections,
+    ghost within: { Within sections (length bytes.now) },
+}
+
+impl<'a> Found<'a> {
+    fn install_made(&self, d: Device, image: bool) -> Device
+        ensures { result ≡ install_made self.now.bytes.now image self.now.sections d }
+    {
+        let mut apps = d.apps;
+        apps.push(self.app_made(image));
+        Device {
+            apps,
+            definitions: self.definitions_made(d.definitions),
+            parts: self.parts_made(d.parts),
+            resources: self.resources_made(d.resources),
+            ..d
+        }
+    }
+
+    fn app_made(&self, image: bool) -> App
+        ensures { result
+            ≡ append_all add_use (app_from (new_row self.now.sections.app self.now.sections.signer image []))
+            (entries (u8_at self.now.bytes.now) 1 self.now.sections.uses.first self.now.sections.uses.count) }
+    {
+        let s = self.bytes;
+        let a = new_app(self.sections.app, self.sections.signer, image);
+        append_all(
+            a,
+            self.sections.uses,
+            1,
+            |t, at| add_use(t, manifest::byte_at(s, at)),
+        )
+    }
+
+    fn definitions_made(&self, definitions: Definitions) -> Definitions
+        ensures { result ≡ definitions_made self.now.bytes.now self.now.sections definitions }
+    {
+        let s = self.bytes;
+        let app = self.sections.app;
+        append_all(definitions, self.sections.defines, 3, |t, at| {
+            let define = manifest::define_at(s, at);
+            with(t, Definition { app, define })
+        })
+    }
+
+    fn parts_made(&self, parts: Parts) -> Parts
+        ensures { result ≡ parts_made self.now.bytes.now self.now.sections parts }
+    {
+        let s = self.bytes;
+        let app = self.sections.app;
+        append_all(parts, self.sections.components, 8, |t, at| {
+            let component = manifest::component_at(s, at);
+            with(t, Part { app, component })
+        })
+    }
+
+    fn resources_made(&self, resources: Resources) -> Resources
+        ensures { result ≡ resources_made self.now.bytes.now self.now.sections resources }
+    {
+        let s = self.bytes;
+        append_all(
+            resources,
+            self.sections.resources,
+            8,
+            |t, at| with(t, manifest::resource_at(s, at)),
+        )
+    }
 }
 
 fn new_app(number: u16, signer: u32, image: bool) -> App
@@ -449,56 +461,6 @@ fn add_use(app: App, permission: u8) -> App
     let mut a = app;
     a.uses.push(permission);
     a
-}
-
-fn add_uses(app: App, section: Section, s: &[u8]) -> App
-    requires { section.first + 1 * section.count ≤ length s.now }
-    ensures { result ≡ append_all add_use app (entries (u8_at s.now) 1 section.first section.count) }
-{
-    append_all(
-        app,
-        section,
-        1,
-        |t, at| add_use(t, manifest::byte_at(s, at)),
-    )
-}
-
-fn add_definitions(definitions: Definitions, app: u16, section: Section, s: &[u8]) -> Definitions
-    requires { section.first + 3 * section.count ≤ length s.now }
-    ensures { result
-        ≡ append_all (λ t x. appended 256 t (record { app = app; define = x })) definitions
-        (entries (define_at s.now) 3 section.first section.count) }
-{
-    append_all(definitions, section, 3, |t, at| {
-        let define = manifest::define_at(s, at);
-        with(t, Definition { app, define })
-    })
-}
-
-fn add_parts(parts: Parts, app: u16, section: Section, s: &[u8]) -> Parts
-    requires { section.first + 8 * section.count ≤ length s.now }
-    ensures { result
-        ≡ append_all (λ t x. appended 64 t (record { app = app; component = x })) parts
-        (entries (component_at s.now) 8 section.first section.count) }
-{
-    append_all(parts, section, 8, |t, at| {
-        let component = manifest::component_at(s, at);
-        with(t, Part { app, component })
-    })
-}
-
-fn add_resources(resources: Resources, section: Section, s: &[u8]) -> Resources
-    requires { section.first + 8 * section.count ≤ length s.now }
-    ensures { result
-        ≡ append_all (appended 128) resources
-        (entries (resource_at s.now) 8 section.first section.count) }
-{
-    append_all(
-        resources,
-        section,
-        8,
-        |t, at| with(t, manifest::resource_at(s, at)),
-    )
 }
 
 // A table with one entry more.

@@ -1,12 +1,12 @@
-//! Reads to the end of a buffer or of the input, for the programs.
+//! For the programs: reads to the end of a buffer or of the input, and writes all bytes or says that it could not.
 #![tactic(auto)]
 
-ghost use Rattle.std.specs.Prelude.{◌<◌, length, take, IfOk};
+ghost use Rattle.std.specs.Prelude.{◌<◌, length, take, IfOk, OnOk};
 ghost use Rattle.std.specs.Io.{ReadsAtMost};
-ghost use Rattle.std.specs.Io.KnownBytes.{Consumes, IsAtEnd};
+ghost use Rattle.std.specs.Io.KnownBytes.{Appends, Consumes, IsAtEnd};
 
 use std::io;
-use std::io::Read;
+use std::io::{Read, Write};
 
 /// Reads until `buf` is full or the input ends, and answers how many bytes it put at the start of `buf`. The first read
 /// that fails ends it.
@@ -25,4 +25,20 @@ pub fn read_full<R: Read>(input: &mut R, buf: &mut [u8]) -> io::Result<usize>
         done += got;
     }
     Ok(done)
+}
+
+/// Writes all of `bytes`. Where that fails, it says `message` on standard error and answers the error of the write.
+pub fn write_or_say<W: Write, E: Eprint>(
+    out: &mut W,
+    bytes: &[u8],
+    err: &E,
+    message: &str,
+) -> io::Result<()>
+    ensures bytes { OnOk result (Appends (W.contents out.old) (W.contents out.new) bytes.now) }
+{
+    let result = out.write_all(bytes);
+    if result.is_err() {
+        let _ = err.eprintln(message);
+    }
+    result
 }

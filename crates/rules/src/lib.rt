@@ -102,7 +102,7 @@ pub enum Hold {
     SignerDiffers,
 }
 
-/// Document 01's number of a refusal.
+/// Document 01's number of a refusal, which is its discriminant.
 impl From<Reason> for u32 {
     ghost from_gives = { λ reason n. n ≡ number_of reason };
 
@@ -111,7 +111,7 @@ impl From<Reason> for u32 {
     }
 }
 
-/// Document 01's number of a ground.
+/// Document 01's number of a ground, which is its discriminant.
 impl From<Ground> for u32 {
     ghost from_gives = { λ ground n. n ≡ ground_number ground };
 

@@ -1,7 +1,7 @@
 //! Reads a tape from standard input and writes its answer sheet to standard output.
 #![tactic(auto)]
 
-use reading::read_full;
+use reading::{read_full, write_or_say};
 use std::io;
 use tape::TooShort;
 
@@ -12,16 +12,7 @@ fn main(rt: HostRuntime) -> io::Result<()> {
     let read = read_full(&mut rt.stdin(), &mut bytes)?;
     let mut out = [0u8; 65536];
     match tape::sheet_of(&bytes[..read], &mut out) {
-        Ok(n) => written(&rt, &out[..n]),
+        Ok(n) => write_or_say(&mut io::writer(&rt), &out[..n], &rt, "sheet not written"),
         Err(TooShort) => Ok(()),
     }
-}
-
-// A sheet that was not written whole is said on standard error.
-fn written(rt: &HostRuntime, sheet: &[u8]) -> io::Result<()> {
-    let result = rt.write_all(sheet);
-    if result.is_err() {
-        let _ = rt.eprintln("sheet not written");
-    }
-    result
 }

@@ -4,9 +4,12 @@
 
 ghost use Rattle.std.specs.Prelude.{◌+◌, ◌*◌, ◌≤◌, ◌<◌, length, IfOk, IfSome};
 
-use reading::read_full;
+use reading::{read_full, write_or_say};
 use std::io;
 use std::io::Read;
+
+// What standard error says of sheets that were not written whole.
+const NOT_WRITTEN: &str = "sheets not written";
 
 fn main(rt: HostRuntime) -> io::Result<()> {
     let mut bytes = [0u8; 65536];
@@ -22,26 +25,17 @@ fn sheets(rt: &HostRuntime, bytes: &mut [u8], out: &mut [u8]) -> io::Result<()> 
         match next_tape(rt, bytes) {
             Ok(Some(n)) => {
                 let due = due_at(at, out.len());
-                written(rt, &out[..due])?;
+                write_or_say(&mut io::writer(rt), &out[..due], rt, NOT_WRITTEN)?;
                 at = put_sheet(&bytes[..n], out, at - due);
             }
             Ok(None) => break,
             Err(e) => {
-                written(rt, &out[..at])?;
+                write_or_say(&mut io::writer(rt), &out[..at], rt, NOT_WRITTEN)?;
                 return Err(e);
             }
         }
     }
-    written(rt, &out[..at])
-}
-
-// Sheets that were not written whole are said on standard error.
-fn written(rt: &HostRuntime, sheets: &[u8]) -> io::Result<()> {
-    let result = rt.write_all(sheets);
-    if result.is_err() {
-        let _ = rt.eprintln("sheets not written");
-    }
-    result
+    write_or_say(&mut io::writer(rt), &out[..at], rt, NOT_WRITTEN)
 }
 
 // How many bytes have to be written now: all of them where a sheet and its last line may not fit after them.
@@ -78,6 +72,7 @@ fn next_tape(rt: &HostRuntime, bytes: &mut [u8]) -> io::Result<Option<usize>>
     if read_full(&mut rt.stdin(), &mut head)? < 4 {
         return Ok(None);
     }
+    // `as`, since a u32 has no From to usize, nor a usize to u64. A usize has 64 bits here, so both keep the number.
     let n = u32::from_le_bytes(head) as usize;
     let m = n.min(bytes.len());
     let read = read_full(&mut rt.stdin(), &mut bytes[..m])?;

@@ -1,5 +1,5 @@
--- A list in an array of fixed room: document 01, "Each table is a list in order of arrival" and "Places past the end are
--- zero". Said for every table: a count past the array holds the whole array.
+-- A list in an array of fixed room: document 01, "Each table is a list in order of arrival" and "Places past the end
+-- are zero". Said for every table: a count past the array holds the whole array.
 use Rattle.std.specs.Prelude.{ℕ, ◌+◌, ◌-◌, cond, List, ◌++◌, length, take, set, replicate, leb}
 use Rattle.manifest.specs.declared.Resource.{Resource}
 use Rattle.rules.specs.declared.Definition.{Definition}

@@ -1,6 +1,5 @@
 pub mod Closures
 pub mod Held
-pub mod Scan
 pub mod Finding
 pub mod Looking
 pub mod OptionLaws
@@ -9,6 +8,5 @@ pub mod LookingLaws
 pub mod Running
 pub mod RunningLaws
 pub mod Changing
-pub mod ChangingLaws
 pub mod HeldLaws
 pub mod Unique

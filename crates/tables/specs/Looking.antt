@@ -1,4 +1,4 @@
--- What the code's types say: an option, an operation, and the place of the app of a running
+-- What the code's types say: an option, an operation, a receiver, and the place of the app of a running
 -- instance. And the view of a device of which only some tables are looked at.
 use Rattle.std.specs.Prelude.{ℕ, ◌&&◌, ◌||◌, cond, List, [], eqb}
 use Rattle.std.specs.Prelude.{Option, Some, None}
@@ -10,13 +10,15 @@ use Rattle.rules.specs.declared.Known.{Known}
 use Rattle.rules.specs.declared.Hold.{Hold}
 use Rattle.rules.specs.declared.Hold.TheVariants.{Granted, ByGroup, NotGranted, BySigner, ByImage, SignerDiffers}
 use Rattle.rules.specs.Lists.{find, bind, map_option, or_else}
-use Rattle.rules.specs.Action.{Op, reading, writing}
+use Rattle.rules.specs.Action.{Op, reading, writing, Receiver as RulesReceiver, an_instance, an_app}
 use Rattle.rules.specs.View.{View, App as RulesApp}
 use Rattle.rules.specs.Permissions.{signature, signature_or_system}
 use Rattle.state.specs.declared.App.{App}
 use Rattle.state.specs.Tables.{Row, part_at, run_in, granted_in, grouped_in, view_of}
 use Rattle.tables.specs.declared.Operation.{Operation}
 use Rattle.tables.specs.declared.Operation.TheVariants.{Read, Write}
+use Rattle.tables.specs.declared.Receiver.{Receiver}
+use Rattle.tables.specs.declared.Receiver.TheVariants.{Instance as ToInstance, App as ToApp}
 use Rattle.tables.specs.Finding.{place_of, is_app}
 
 -- the code's option, for that of the rules
@@ -27,6 +29,19 @@ option_of (some x) = Some x
 abbrev pub op_of : Operation → Op
 op_of Read = reading
 op_of Write = writing
+
+abbrev pub receiver_of : Receiver ℕ → RulesReceiver
+receiver_of (ToInstance n) = an_instance n
+receiver_of (ToApp b) = an_app b
+
+-- a receiver's kind and number, for numbers of every type
+abbrev pub kind_of : {N : Type 0} → Receiver N → ℕ
+kind_of (ToInstance n) = 1
+kind_of (ToApp b) = 2
+
+abbrev pub number_in : {N : Type 0} → Receiver N → N
+number_in (ToInstance n) = n
+number_in (ToApp b) = b
 
 -- no resources, no loans
 unfoldable pub view_by : List Row → List Definition → List Part → List Instance → View

@@ -1,27 +1,30 @@
--- An app of the code against a row of the rules, and which tables an answer depends on.
-use Rattle.std.specs.Prelude.{ℕ, ◌≡◌, false, ◌&&◌, List, [], map, eqb}
+-- A receiver and an app of the code against those of the rules, and which tables an answer depends on.
+use Rattle.std.specs.Prelude.{ℕ, ◌≡◌, refl, ◌&&◌, List, map, eqb}
 use Rattle.std.proofs.Common.{◌∙◌}
 use Rattle.std.proofs.Math.Option.{none, some}
 use Rattle.rules.specs.Lists.{any, mem, find, map_option}
+use Rattle.rules.specs.Action.{receiver_kind, receiver_number}
 use Rattle.rules.specs.ListsLaws.{any-map, find-map, map-map}
 use Rattle.state.specs.declared.App.{App}
 use Rattle.state.specs.Stored.{row_of}
 use Rattle.state.specs.Tables.{app_number, apps_of, app_at, granted_in, grouped_in}
+use Rattle.tables.specs.declared.Receiver.{Receiver}
+use Rattle.tables.specs.declared.Receiver.TheVariants.{Instance as ToInstance, App as ToApp}
 use Rattle.tables.specs.Finding.{is_app}
+use Rattle.tables.specs.Looking.{receiver_of, kind_of, number_in}
+
+-- ---- a receiver
+pub same-kind : (r : Receiver ℕ) → kind_of r ≡ receiver_kind (receiver_of r)
+unfolding receiver_kind
+same-kind (ToInstance n) = refl
+same-kind (ToApp b) = refl
+
+pub same-number : (r : Receiver ℕ) → number_in r ≡ receiver_number (receiver_of r)
+unfolding receiver_number
+same-number (ToInstance n) = refl
+same-number (ToApp b) = refl
 
 -- ---- an app
--- what is read past the end of an array of apps
-abbrev pub blank_app : App
-blank_app =
-    record {
-      number = 0;
-      signer = 0;
-      image = false;
-      uses = record { entries = []; count = 0 };
-      grants = record { entries = []; count = 0 };
-      groups = record { entries = []; count = 0 };
-    }
-
 same-search : (l : List App) (n : ℕ) → app_at (apps_of (map row_of l)) n
     ≡ map_option (λ a. (row_of a).app) (find (is_app n) l)
 unfolding app_at

@@ -3,6 +3,7 @@
 use Rattle.std.specs.Prelude.{ℕ, ◌≡◌, Bool, not, List, Option, [], take, eqb}
 use Rattle.std.specs.Int.Count.{ones}
 use Rattle.manifest.specs.Unique.{only_one}
+use Rattle.manifest.specs.declared.Resource.{Resource}
 use Rattle.rules.specs.declared.Definition.{Definition}
 use Rattle.rules.specs.declared.Part.{Part}
 use Rattle.rules.specs.declared.Instance.{Instance}
@@ -14,8 +15,10 @@ use Rattle.state.specs.declared.Instances.{Instances}
 use Rattle.state.specs.declared.Table.{Table}
 use Rattle.state.specs.Listed.{Apps, Definitions, Parts, Resources, list_in}
 use Rattle.tables.specs.declared.Operation.{Operation}
+use Rattle.tables.specs.declared.Receiver.{Receiver}
 use Rattle.tables.specs.declared.Change.{Change}
 use Rattle.rules.specs.Lists.{any, keep, mem}
+use Rattle.rules.specs.Action.{carries}
 use Rattle.rules.specs.Permissions.{built_in, known, hold, holds, allows}
 use Rattle.rules.specs.Grounds.{right_ground}
 use Rattle.state.specs.Stored.{row_of}
@@ -23,10 +26,22 @@ use Rattle.state.specs.Tables.{apps_of, is_resource, owned_by, defined_by, known
 use Rattle.state.specs.Tables.{grouped_in}
 use Rattle.tables.specs.Held.{apps_in, rows_in, definitions_in, parts_in, resources_in, instances_in}
 use Rattle.tables.specs.Held.{apps_table, definitions_table, parts_table, resources_table}
-use Rattle.tables.specs.Finding.{place_of, is_app, is_part, is_definition, is_instance}
-use Rattle.tables.specs.Looking.{option_of, op_of, view_by, running_place}
+use Rattle.tables.specs.Finding.{place_of, first_of, is_app, is_part, is_definition, is_instance}
+use Rattle.tables.specs.Looking.{option_of, op_of, kind_of, number_in, view_by, running_place, runner_in}
 use Rattle.tables.specs.Running.{next_of}
 use Rattle.tables.specs.Changing.{append_instance, remove_instance, write_value, change_app, drop_grants}
+
+pub is-in-only : (operation : Operation) (operations : ℕ) (r r' : Bool)
+    → r ≡ carries (op_of operation) operations → r' ≡ carries (op_of operation) operations → r ≡ r'
+is-in-only operation operations = only_one (carries (op_of operation) operations)
+
+pub kind-only : {N : Type 0} (receiver : Receiver N) (r r' : ℕ)
+    → r ≡ kind_of receiver → r' ≡ kind_of receiver → r ≡ r'
+kind-only receiver = only_one (kind_of receiver)
+
+pub number-only : {N : Type 0} (receiver : Receiver N) (r r' : N)
+    → r ≡ number_in receiver → r' ≡ number_in receiver → r ≡ r'
+number-only receiver = only_one (number_in receiver)
 
 pub find-app-only : (apps : Apps) (number : ℕ) (r r' : Option ℕ)
     → r ≡ place_of (is_app number) (apps_in apps) → r' ≡ place_of (is_app number) (apps_in apps) → r ≡ r'
@@ -51,6 +66,35 @@ pub find-resource-only : (resources : Resources) (provider uri : ℕ) (r r' : Op
     → r ≡ place_of (is_resource provider uri) (resources_in resources)
     → r' ≡ place_of (is_resource provider uri) (resources_in resources) → r ≡ r'
 find-resource-only resources provider uri = only_one (place_of (is_resource provider uri) (resources_in resources))
+
+pub app-of-only : (apps : Apps) (number : ℕ) (r r' : Option App)
+    → r ≡ first_of (is_app number) (apps_in apps) → r' ≡ first_of (is_app number) (apps_in apps) → r ≡ r'
+app-of-only apps number = only_one (first_of (is_app number) (apps_in apps))
+
+pub part-of-only : (parts : Parts) (number : ℕ) (r r' : Option Part)
+    → r ≡ first_of (is_part number) (parts_in parts) → r' ≡ first_of (is_part number) (parts_in parts) → r ≡ r'
+part-of-only parts number = only_one (first_of (is_part number) (parts_in parts))
+
+pub definition-of-only : (definitions : Definitions) (permission : ℕ) (r r' : Option Definition)
+    → r ≡ first_of (is_definition permission) (definitions_in definitions)
+    → r' ≡ first_of (is_definition permission) (definitions_in definitions) → r ≡ r'
+definition-of-only definitions permission = only_one (first_of (is_definition permission) (definitions_in definitions))
+
+pub instance-of-only : (instances : Instances) (number : ℕ) (r r' : Option Instance)
+    → r ≡ first_of (is_instance number) (instances_in instances)
+    → r' ≡ first_of (is_instance number) (instances_in instances) → r ≡ r'
+instance-of-only instances number = only_one (first_of (is_instance number) (instances_in instances))
+
+pub resource-of-only : (resources : Resources) (provider uri : ℕ) (r r' : Option Resource)
+    → r ≡ first_of (is_resource provider uri) (resources_in resources)
+    → r' ≡ first_of (is_resource provider uri) (resources_in resources) → r ≡ r'
+resource-of-only resources provider uri = only_one (first_of (is_resource provider uri) (resources_in resources))
+
+pub runner-only : (apps : Apps) (parts : Parts) (instances : Instances) (number : ℕ) (r r' : Option App)
+    → r ≡ option_of (runner_in (apps_in apps) (parts_in parts) (instances_in instances) number)
+    → r' ≡ option_of (runner_in (apps_in apps) (parts_in parts) (instances_in instances) number) → r ≡ r'
+runner-only apps parts instances number =
+    only_one (option_of (runner_in (apps_in apps) (parts_in parts) (instances_in instances) number))
 
 pub has-app-only : (apps : Apps) (number : ℕ) (r r' : Bool)
     → r ≡ any (is_app number) (apps_in apps) → r' ≡ any (is_app number) (apps_in apps) → r ≡ r'

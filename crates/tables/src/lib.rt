@@ -7,6 +7,7 @@ ghost use Rattle.std.specs.Prelude.{◌≡◌, ◌&&◌, not, [], map, take, eqb
 ghost use Rattle.std.specs.Int.Bits.{bit_and, bit_or};
 ghost use Rattle.std.specs.Int.Count.{ones};
 ghost use Rattle.rules.specs.Lists.{any, keep, mem};
+ghost use Rattle.rules.specs.Action.{carries};
 ghost use Rattle.rules.specs.Permissions.{built_in, known, hold, holds, allows};
 ghost use Rattle.rules.specs.Grounds.{permission_for, right_ground};
 ghost use Rattle.state.specs.Effects.{put};
@@ -19,7 +20,7 @@ ghost use Rattle.tables.specs.Held.{apps_in, rows_in, definitions_in, parts_in, 
 ghost use Rattle.tables.specs.Held.{definitions_table, parts_table, resources_table};
 ghost use Rattle.tables.specs.Finding.{place_of, first_of, is_app, is_part, is_definition, is_instance};
 ghost use Rattle.tables.specs.Looking.{option_of, op_of, view_by, running_place, runner_in, hold_dangerous};
-ghost use Rattle.tables.specs.Looking.{hold_signature};
+ghost use Rattle.tables.specs.Looking.{hold_signature, kind_of, number_in};
 ghost use Rattle.tables.specs.Running.{digit_of, without, next_of};
 ghost use Rattle.tables.specs.Changing.{append_instance, remove_instance, mapped, write_value, change_app, drop_grants};
 ghost use Rattle.tables.specs.Changing.{changed_at, undefined_grants};
@@ -33,6 +34,48 @@ use state::{App, Apps, Definitions, Instances, Parts, Resources, Table};
 pub enum Operation {
     Read,
     Write,
+}
+
+impl Operation {
+    /// Do a loan's operations, 1 read, 2 write, 3 both, have it?
+    #[tactic(auto, unfolding(rules::specs::Action::carries))]
+    pub fn is_in(self, operations: u8) -> bool
+        ensures { result ≡ carries (op_of self) operations }
+    {
+        match self {
+            Operation::Read => matches!(operations, 1 | 3),
+            Operation::Write => matches!(operations, 2 | 3),
+        }
+    }
+}
+
+/// To whom a loan is: an instance or an app, by its number.
+#[derive(Clone, Copy, PartialEq, Eq)]
+pub enum Receiver<N> {
+    Instance(N),
+    App(N),
+}
+
+impl<N: Copy> Receiver<N> {
+    /// The kind of a loan to it.
+    pub fn kind(self) -> u8
+        ensures { result ≡ kind_of self }
+    {
+        match self {
+            Receiver::Instance(_) => 1,
+            Receiver::App(_) => 2,
+        }
+    }
+
+    /// Its number.
+    pub fn number(self) -> N
+        ensures { result ≡ number_in self }
+    {
+        match self {
+            Receiver::Instance(number) => number,
+            Receiver::App(number) => number,
+        }
+    }
 }
 
 /// How a grant action changes one of an app's lists.
@@ -71,7 +114,7 @@ const BUILT_INS: [Option<BuiltIn>; 16] = [
     None,
 ];
 
-// ---- searches
+// ---- searches: one line each over a list, since each asks another field of another entry
 
 /// The place of the first app of a number.
 pub fn find_app(apps: Apps, number: u16) -> Option<usize>
@@ -297,6 +340,7 @@ pub fn defined_in(apps: Apps, definitions: Definitions, permission: u16) -> Opti
 pub fn known_of(apps: Apps, definitions: Definitions, permission: u16) -> Option<Known>
     ensures { result ≡ option_of (known (view_by (rows_in apps) (definitions_in definitions) [] []) permission) }
 {
+    // A `match`, here and in `holds`: of a closure that calls a contract, `or_else` and `is_some_and` tell too little.
     match built_in(permission) {
         Some(known) => Some(known),
         None => defined_in(apps, definitions, permission),
@@ -500,7 +544,8 @@ pub fn drop_grants(apps: Apps, definitions: Definitions, app: u16) -> Apps
 
 // ---- helpers
 
-// The entries that pass a test, in their order, and zero past them.
+// The entries that pass a test, in their order, and zero past them. Private, as all that take a closure: it has to be
+// callable, and no function that another crate can reach has a `requires`.
 fn kept<T: Copy, const ROOM: usize, F: Fn(&T) -> bool>(
     table: Table<T, ROOM>,
     zero: T,
@@ -527,6 +572,7 @@ fn changed<T: Copy, const ROOM: usize, F: Fn(T) -> T>(
     ensures { (to : T → T) → Gives F.Fn change to → result ≡ mapped to table }
 {
     let mut t = table;
+    // By the place, which the proof names: `iter_mut` up to the count has none.
     for i in 0..table.held().len() {
         t.entries[i] = change(t.entries[i]);
     }

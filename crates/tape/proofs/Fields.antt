@@ -1,9 +1,11 @@
 -- Fields: how long they are, and that fields written one after the other are a line.
-use Prim.Native.Nat.{ℕ, suc, ◌+◌, ◌<◌, ◌≤◌, ◌^◌}
-use mathlib.Core.Path.{◌≡◌, sym, subst}
+use Prim.Native.Nat.{ℕ, ◌+◌, ◌<◌, ◌≤◌, ◌^◌}
+use mathlib.Core.Path.{◌≡◌, sym, ap, subst, ◌∙◌}
 use mathlib.Core.List.{List, [], ◌∷◌}
 use lib.ListN.{length, length-append}
 use native.Mathlib.Omega.{arith}
+use Rattle.std.specs.Fmt.{decimal as printed}
+use Rattle.std.proofs.lemmas.Fmt.{length-decimal-le}
 use Rattle.rules.specs.declared.Ground.{Ground}
 use Rattle.rules.specs.declared.Ground.TheVariants.{Nothing, Owner, Permission, LoanToInstance, LoanToApp}
 use Rattle.rules.specs.declared.Reason.{Reason}
@@ -13,35 +15,30 @@ use Rattle.rules.specs.declared.Reason.TheVariants.{Undefined, CannotBeGranted, 
 use Rattle.rules.specs.declared.Reason.TheVariants.{PartOfTheImage, NoRoom}
 use Rattle.rules.specs.Answer.{Answer, done, refused, number_of, ground_number, line_of}
 use Rattle.history.specs.Sheet.{digits_within, decimal, field, field_or_none, answer_text, line_text, end_text}
-use Rattle.history.specs.Sheet.{running_text}
-use Rattle.history.specs.Sheet.{lent_text}
+use Rattle.history.specs.Sheet.{running_text, lent_text}
 use Rattle.history.specs.Run.{counts_text}
 use Rattle.tape.specs.Written.{Written}
 use Rattle.tape.proofs.Writing.{then}
-use Rattle.tape.proofs.Decimal.{tens, digits-most}
+use Rattle.tape.proofs.Decimal.{as-printed}
 
-pub length-field : (n b : ℕ) → length (field n b) ≡ length (decimal n) + 1
-length-field n b = length-append (decimal n) (b ∷ [])
+pub length-field : (n b : ℕ) → n < 2 ^ 64 → length (field n b) ≡ length (printed n) + 1
+length-field n b h = length-append (decimal n) (b ∷ []) ∙ ap (λ (t : List ℕ). length t + 1) (as-printed n h)
 
-field-most : (k n b : ℕ) → n < 2 ^ 64 → n < tens (suc k) → length (field n b) ≤ k + 2
-field-most k n b l h = omega (arith, length-field n b, digits-most k n l h)
+field-most : (k n b : ℕ) → 0 < k → n < 10 ^ k → n < 2 ^ 64 → length (field n b) ≤ k + 1
+field-most k n b p h l = omega (arith, length-field n b l, length-decimal-le k n p h l)
 
 -- a code, the place of an action, a value and a count, each with the byte after it
 pub code-field : (n b : ℕ) → n < 256 → length (field n b) ≤ 4
-unfolding tens
-code-field n b h = field-most 2 n b (omega arith) (omega arith)
+code-field n b h = field-most 3 n b (omega arith) (omega arith) (omega arith)
 
 pub place-field : (n b : ℕ) → n < 10000 → length (field n b) ≤ 5
-unfolding tens
-place-field n b h = field-most 3 n b (omega arith) (omega arith)
+place-field n b h = field-most 4 n b (omega arith) (omega arith) (omega arith)
 
 pub value-field : (n b : ℕ) → n < 4294967296 → length (field n b) ≤ 11
-unfolding tens
-value-field n b h = field-most 9 n b (omega arith) (omega arith)
+value-field n b h = field-most 10 n b (omega arith) (omega arith) (omega arith)
 
 pub count-field : (n b : ℕ) → n < 2 ^ 64 → length (field n b) ≤ 21
-unfolding tens
-count-field n b h = field-most 19 n b h (omega arith)
+count-field n b h = field-most 20 n b (omega arith) (omega arith) (omega arith)
 
 -- a ground has one digit and a refusal at most two
 ground-small : (g : Ground) → ground_number g < 10
@@ -70,12 +67,10 @@ number_small NoRoom = omega arith
 
 pub ground-field : {a : Answer} {g : Ground} {v : ℕ} (n b : ℕ) → a ≡ done g v → n ≡ ground_number g
     → length (field n b) ≤ 2
-unfolding tens
-ground-field {g = g} n b e f = let h = ground-small g in field-most 0 n b (omega arith) (omega arith)
+ground-field {g = g} n b e f = let h = ground-small g in field-most 1 n b (omega arith) (omega arith) (omega arith)
 
 pub number-field : {a : Answer} {r : Reason} (n b : ℕ) → a ≡ refused r → n ≡ number_of r → length (field n b) ≤ 3
-unfolding tens
-number-field {r = r} n b e f = let h = number_small r in field-most 1 n b (omega arith) (omega arith)
+number-field {r = r} n b e f = let h = number_small r in field-most 2 n b (omega arith) (omega arith) (omega arith)
 
 -- ---- lines
 pub same-field : {l m : List ℕ} {i j n x : ℕ} (b : ℕ) → n ≡ x → Written l i (field n b) m j

@@ -1,9 +1,9 @@
 -- Laws of writing at a place: what was written first and what was written after it is one text.
 use Prim.Native.Nat.{ℕ, suc, ◌+◌, ◌-◌, ◌≤◌}
-use mathlib.Core.Path.{◌≡◌, refl, sym, ◌∙◌}
+use mathlib.Core.Path.{◌≡◌, refl, sym, ap, ◌∙◌}
 use mathlib.Core.List.{List, [], ◌∷◌, ◌++◌}
 use lib.ListN.{length, set, take, drop, length-append}
-use lib.Seq.{sets, sets-eq}
+use lib.Seq.{sets, sets-eq, length-sets}
 use borrow.Rule.Slice.PartMut.{put_mid}
 use Rattle.std.proofs.lemmas.Slice.{put_mid-paste}
 use Rattle.std.proofs.Common.{take_all}
@@ -19,8 +19,8 @@ sets-append (a ∷ x) y l i = sets-append x y (set l i a) (suc i) ∙ rw (add-su
 pub nothing : (l : List ℕ) (i : ℕ) → Written l i [] l i
 nothing l i = record { stored = refl; next = sym (add-zero i) }
 
-pub one : (l : List ℕ) (i b : ℕ) → Written l i (b ∷ []) (set l i b) (i + 1)
-one l i b = record { stored = refl; next = refl }
+pub same-length : {l m x : List ℕ} {i k : ℕ} → Written l i x m k → length m ≡ length l
+same-length {l} {x = x} {i} w = ap length w.stored ∙ length-sets l i x
 
 pub then : {l m n x y : List ℕ} {i j k : ℕ} → Written l i x m j → Written m j y n k → Written l i (x ++ y) n k
 then {l} {m} {n} {x} {y} {i} {j} {k} v w =

@@ -7,13 +7,14 @@ ghost use Rattle.manifest.specs.Layout.{u16_at};
 ghost use Rattle.state.specs.Tables.{fresh};
 ghost use Rattle.state.specs.Stored.{zero_loan, device_of};
 ghost use Rattle.history.specs.Tape.{is_tape, actions_place, action_count, handed};
-ghost use Rattle.history.specs.Sheet.{decimal, field, refused_text, answer_text, line_text, sheet};
+ghost use Rattle.history.specs.Sheet.{field, refused_text, answer_text, line_text, sheet};
 ghost use Rattle.history.specs.Run.{monitor_steps, counts_text, run_text};
-ghost use Rattle.tape.specs.Written.{Written};
+ghost use Rattle.tape.specs.Written.{Written, SameBuffer};
 ghost use Rattle.tape.specs.Reading.{held_by, stepped};
 ghost use Rattle.tape.specs.Filled.{wrote, filled, sheet_room};
 ghost use Rattle.tape.specs.Ran.{lines_room, lines_of, ran, RanAt};
 
+use itoa::Buffer;
 use manifest::Resource;
 use monitor::Stepped;
 use rules::{Answer, Definition, Done, Instance, Loan, Part};
@@ -31,14 +32,6 @@ pub struct Ran {
     pub wrote: Result<usize, TooShort>,
 }
 
-// Device and loan table after some records, and where their lines end in the buffer.
-#[derive(Clone, Copy)]
-struct Lines {
-    device: Device,
-    lent: [Loan; 128],
-    end: usize,
-}
-
 /// The sheet of a tape, at the front of a lent buffer: how many bytes it has. What stands after it in the buffer stays
 /// as it was.
 pub fn sheet_of(tape: &[u8], out: &mut [u8]) -> Result<usize, TooShort>
@@ -52,9 +45,14 @@ pub fn sheet_of(tape: &[u8], out: &mut [u8]) -> Result<usize, TooShort>
     if out.len() < 24 * tape.actions + 98 {
         return Err(TooShort);
     }
-    let a = put(out, 0, b"answers ");
-    let b = put_field(out, a, tape.actions, b'\n');
-    Ok(put_run(&tape, out, b))
+    let mut writer = Writer {
+        buffer: out,
+        end: 0,
+    };
+    writer.put(b"answers ");
+    writer.put_field(tape.actions, b'\n');
+    writer.put_run(&tape);
+    Ok(writer.end)
 }
 
 /// The records of a tape, one after the other at a device and its loan table: the line of each at the front of a lent
@@ -78,13 +76,15 @@ pub fn run(tape: &[u8], d: Device, lent: [Loan; 128], out: &mut [u8]) -> Ran
             wrote: Err(TooShort),
         };
     }
-    let lines = put_lines(&tape, d, lent, out, 0);
-    let device = lines.device;
-    let left = lines.lent;
+    let mut writer = Writer {
+        buffer: out,
+        end: 0,
+    };
+    let (device, lent) = writer.put_lines(&tape, d, lent);
     Ran {
         device,
-        lent: left,
-        wrote: Ok(lines.end),
+        lent,
+        wrote: Ok(writer.end),
     }
 }
 
@@ -190,121 +190,131 @@ fn put_refused(out: &mut [u8]) -> Result<usize, TooShort>
     if out.len() < 13 {
         return Err(TooShort);
     }
-    Ok(put(out, 0, b"tape refused\n"))
+    let mut writer = Writer {
+        buffer: out,
+        end: 0,
+    };
+    writer.put(b"tape refused\n");
+    Ok(writer.end)
 }
 
-// The lines of a tape's actions at a fresh device, and the last line.
-fn put_run(tape: &Tape, out: &mut [u8], from: usize) -> usize
-    requires { from + 24 * tape.now.actions + 85 ≤ length out.old }
-    ensures written { Written out.old from (run_text monitor_steps tape.now.bytes.now tape.now.actions)
-        out.new result }
-    ensures upper_bound { result ≤ from + 24 * tape.now.actions + 85 }
-{
-    let lines = put_lines(tape, fresh_device(), zero_loans(), out, from);
-    let d = lines.device;
-    let running = tables::running_count(d.instances) as usize;
-    put_counts(out, lines.end, d.apps.count, running, d.lent)
+// A lent buffer, and where what is written in it ends.
+#[derive(Drop)]
+struct Writer<'a> {
+    buffer: &'a mut [u8],
+    end: usize,
 }
 
-// The lines of a tape's actions at a device and its loan table.
-fn put_lines(tape: &Tape, device: Device, table: [Loan; 128], out: &mut [u8], from: usize) -> Lines
-    requires { from + 24 * tape.now.actions ≤ length out.old }
-    ensures ran_at { RanAt tape.now.bytes.now (held_by device table) out.old from tape.now.actions
-        (held_by result.device result.lent) out.new result.end }
-    ensures end_bound { result.end ≤ from + 24 * tape.now.actions }
-{
-    let mut d = device;
-    let mut lent = table;
-    let mut at = from;
-    for i in 0..tape.actions {
-        let code = tape.bytes[tape.records + 12 * i];
-        let next = tape.step(i, d, lent);
-        at = put_line(out, at, i + 1, code, next.answer);
-        d = next.device;
-        lent = next.lent;
+impl Writer<'_> {
+    // The lines of a tape's actions at a fresh device, and the last line.
+    fn put_run(&mut self, tape: &Tape)
+        requires { self.old.end + 24 * tape.now.actions + 85 ≤ length self.old.buffer.now }
+        ensures written { Written self.old.buffer.now self.old.end
+            (run_text monitor_steps tape.now.bytes.now tape.now.actions) self.new.buffer.now self.new.end }
+        ensures lent { SameBuffer self.old self.new }
+        ensures upper_bound { self.new.end ≤ self.old.end + 24 * tape.now.actions + 85 }
+    {
+        let (d, _lent) = self.put_lines(tape, fresh_device(), zero_loans());
+        // A cast, here and in `put_answer`: there is no `From` of a u32 for a usize.
+        let running = tables::running_count(d.instances) as usize;
+        self.put_counts(d.apps.count, running, d.lent);
     }
-    Lines {
-        device: d,
-        lent,
-        end: at,
-    }
-}
 
-// The last line: `end apps` and the count, and so on.
-fn put_counts(out: &mut [u8], at: usize, apps: usize, running: usize, lent: usize) -> usize
-    requires { at + 85 ≤ length out.old }
-    ensures written { Written out.old at (counts_text apps running lent) out.new result }
-    ensures upper_bound { result ≤ at + 85 }
-{
-    let a = put(out, at, b"end apps ");
-    let b = put_field(out, a, apps, b' ');
-    let c = put(out, b, b"running ");
-    let d = put_field(out, c, running, b' ');
-    let e = put(out, d, b"lent ");
-    put_field(out, e, lent, b'\n')
-}
-
-// The line of an action.
-fn put_line(out: &mut [u8], at: usize, place: usize, code: u8, answer: Answer) -> usize
-    requires { (place < 10000) × (at + 24 ≤ length out.old) }
-    ensures written { Written out.old at (line_text place code answer) out.new result }
-    ensures upper_bound { result ≤ at + 24 }
-{
-    let a = put_field(out, at, place, b' ');
-    let b = put_field(out, a, usize::from(code), b' ');
-    put_answer(out, b, answer)
-}
-
-// Answer, ground and value, to the line's end.
-fn put_answer(out: &mut [u8], at: usize, answer: Answer) -> usize
-    requires { at + 15 ≤ length out.old }
-    ensures written { Written out.old at (answer_text answer) out.new result }
-    ensures upper_bound { result ≤ at + 15 }
-{
-    match answer {
-        Ok(Done { ground, value }) => {
-            let a = put(out, at, b"0 ");
-            let b = put_field(out, a, u32::from(ground) as usize, b' ');
-            put_field(out, b, value as usize, b'\n')
+    // The lines of a tape's actions at a device and its loan table, and what these are after them.
+    fn put_lines(
+        &mut self,
+        tape: &Tape,
+        device: Device,
+        table: [Loan; 128],
+    ) -> (Device, [Loan; 128])
+        requires { self.old.end + 24 * tape.now.actions ≤ length self.old.buffer.now }
+        ensures ran_at { RanAt tape.now.bytes.now (held_by device table) self.old.buffer.now self.old.end
+            tape.now.actions (held_by result.0 result.1) self.new.buffer.now self.new.end }
+        ensures lent { SameBuffer self.old self.new }
+        ensures upper_bound { self.new.end ≤ self.old.end + 24 * tape.now.actions }
+    {
+        let mut d = device;
+        let mut lent = table;
+        for i in 0..tape.actions {
+            let code = tape.bytes[tape.records + 12 * i];
+            let next = tape.step(i, d, lent);
+            self.put_line(i + 1, code, next.answer);
+            d = next.device;
+            lent = next.lent;
         }
-        Err(reason) => {
-            let a = put_field(out, at, u32::from(reason) as usize, b' ');
-            put(out, a, b"- -\n")
+        (d, lent)
+    }
+
+    // The last line: `end apps` and the count, and so on.
+    fn put_counts(&mut self, apps: usize, running: usize, lent: usize)
+        requires { self.old.end + 85 ≤ length self.old.buffer.now }
+        ensures written { Written self.old.buffer.now self.old.end (counts_text apps running lent)
+            self.new.buffer.now self.new.end }
+        ensures lent { SameBuffer self.old self.new }
+        ensures upper_bound { self.new.end ≤ self.old.end + 85 }
+    {
+        self.put(b"end apps ");
+        self.put_field(apps, b' ');
+        self.put(b"running ");
+        self.put_field(running, b' ');
+        self.put(b"lent ");
+        self.put_field(lent, b'\n');
+    }
+
+    // The line of an action.
+    fn put_line(&mut self, place: usize, code: u8, answer: Answer)
+        requires { (place < 10000) × (self.old.end + 24 ≤ length self.old.buffer.now) }
+        ensures written { Written self.old.buffer.now self.old.end (line_text place code answer)
+            self.new.buffer.now self.new.end }
+        ensures lent { SameBuffer self.old self.new }
+        ensures upper_bound { self.new.end ≤ self.old.end + 24 }
+    {
+        self.put_field(place, b' ');
+        self.put_field(usize::from(code), b' ');
+        self.put_answer(answer);
+    }
+
+    // Answer, ground and value, to the line's end.
+    fn put_answer(&mut self, answer: Answer)
+        requires { self.old.end + 15 ≤ length self.old.buffer.now }
+        ensures written { Written self.old.buffer.now self.old.end (answer_text answer)
+            self.new.buffer.now self.new.end }
+        ensures lent { SameBuffer self.old self.new }
+        ensures upper_bound { self.new.end ≤ self.old.end + 15 }
+    {
+        match answer {
+            Ok(Done { ground, value }) => {
+                self.put(b"0 ");
+                self.put_field(u32::from(ground) as usize, b' ');
+                self.put_field(value as usize, b'\n');
+            }
+            Err(reason) => {
+                self.put_field(u32::from(reason) as usize, b' ');
+                self.put(b"- -\n");
+            }
         }
     }
-}
 
-// A number and the byte after it.
-fn put_field(out: &mut [u8], at: usize, n: usize, ending: u8) -> usize
-    requires { at + length (field n ending) ≤ length out.old }
-    ensures { Written out.old at (field n ending) out.new result }
-{
-    let next = put_number(out, at, n);
-    out[next] = ending;
-    next + 1
-}
-
-// A number in decimal: the digits of a tenth of it, then its last digit.
-fn put_number(out: &mut [u8], at: usize, n: usize) -> usize
-    requires { at + length (decimal n) ≤ length out.old }
-    ensures { Written out.old at (decimal n) out.new result }
-{
-    if n < 10 {
-        out[at] = b'0' + n as u8;
-        return at + 1;
+    // A number in decimal, and the byte after it.
+    fn put_field(&mut self, n: usize, ending: u8)
+        requires { self.old.end + length (field n ending) ≤ length self.old.buffer.now }
+        ensures written { Written self.old.buffer.now self.old.end (field n ending) self.new.buffer.now self.new.end }
+        ensures lent { SameBuffer self.old self.new }
+    {
+        self.put(Buffer::new().format(n).as_bytes());
+        self.put(&[ending]);
     }
-    let next = put_number(out, at, n / 10);
-    out[next] = b'0' + (n % 10) as u8;
-    next + 1
-}
 
-fn put(out: &mut [u8], at: usize, bytes: &[u8]) -> usize
-    requires { at + length bytes.now ≤ length out.old }
-    ensures { Written out.old at bytes.now out.new result }
-{
-    let end = at + bytes.len();
-    out[at..end].copy_from_slice(bytes);
-    end
+    // Bytes as they stand.
+    fn put(&mut self, bytes: &[u8])
+        requires { self.old.end + length bytes.now ≤ length self.old.buffer.now }
+        ensures written { Written self.old.buffer.now self.old.end bytes.now self.new.buffer.now self.new.end }
+        ensures lent { SameBuffer self.old self.new }
+    {
+        let start = self.end;
+        self.end += bytes.len();
+        self.buffer[start..self.end].copy_from_slice(bytes);
+    }
 }
 
 // ---- the fresh device and the table lent to it: each table is one zero entry, repeated
@@ -325,6 +335,7 @@ fn fresh_device() -> Device
     }
 }
 
+// The crate loans, which has such a table too, is none that this one stands on.
 fn zero_loans() -> [Loan; 128]
     ensures { result ≡ replicate 128 zero_loan }
 {

@@ -2,10 +2,13 @@
 
 // Reads manifests from standard input, each after its u16 length, and writes a line for each: `0` for a good
 // manifest, `3` for any other bytes. Where the input ends inside a manifest, or a read fails, the last line is `cut`.
-ghost use Rattle.std.specs.Prelude.{◌≡◌, ◌+◌, ◌*◌, ◌≤◌, length};
+ghost use Rattle.std.specs.Prelude.{◌≡◌, ◌+◌, ◌*◌, ◌≤◌, length, slice_index};
 
-use reading::read_full;
+use reading::{read_full, write_or_say};
 use std::io;
+
+// What standard error says of a line that was not written whole. No further line is written.
+const NOT_WRITTEN: &str = "verdicts: a write failed";
 
 // What the input has next: a manifest, whose answer is this digit; its end; or less than was announced.
 #[derive(Clone, Copy)]
@@ -30,23 +33,23 @@ fn main(rt: HostRuntime) -> io::Result<()> {
 // together, since a write takes longer than a check.
 fn answer_some(rt: &HostRuntime) -> io::Result<bool> {
     let mut bytes = [0u8; 65536];
-    let mut lines = [b'\n'; 4096];
-    for i in 0..2048usize {
+    let mut lines = [[b'\n'; 2]; 2048];
+    for (i, line) in lines.iter_mut().enumerate() {
         match answer_next(rt, &mut bytes) {
-            Ok(Next::Answer(digit)) => lines[2 * i] = digit,
-            last => return end(rt, &lines[..2 * i], last),
+            Ok(Next::Answer(digit)) => line[0] = digit,
+            last => return end(rt, lines[..i].as_flattened(), last),
         }
     }
-    written(rt, &lines)?;
+    write_or_say(&mut io::writer(rt), lines.as_flattened(), rt, NOT_WRITTEN)?;
     Ok(true)
 }
 
 // Writes the last lines. No manifest comes after them, so the answer is to stop, or the error of the read that failed.
 fn end(rt: &HostRuntime, lines: &[u8], last: io::Result<Next>) -> io::Result<bool> {
-    written(rt, lines)?;
+    write_or_say(&mut io::writer(rt), lines, rt, NOT_WRITTEN)?;
     match last {
         Ok(Next::End) => {}
-        _ => written(rt, b"cut\n")?,
+        _ => write_or_say(&mut io::writer(rt), b"cut\n", rt, NOT_WRITTEN)?,
     }
     last?;
     Ok(false)
@@ -59,7 +62,7 @@ fn answer_next(rt: &HostRuntime, bytes: &mut [u8]) -> io::Result<Next>
     match read_full(&mut rt.stdin(), &mut head)? {
         0 => nothing_came(rt),
         1 => Ok(Next::Cut),
-        _ => answer_manifest(rt, &mut bytes[..length_of(head[0], head[1])]),
+        _ => answer_manifest(rt, &mut bytes[..length_of(head)]),
     }
 }
 
@@ -81,11 +84,11 @@ fn answer_manifest(rt: &HostRuntime, bytes: &mut [u8]) -> io::Result<Next> {
     Ok(Next::Answer(digit_of(manifest::manifest_check(bytes))))
 }
 
-fn length_of(low: u8, high: u8) -> usize
-    ensures value { result ≡ low + 256 * high }
+fn length_of(head: [u8; 2]) -> usize
+    ensures value { result ≡ slice_index head 0 + 256 * slice_index head 1 }
     ensures upper_bound { result ≤ 65535 }
 {
-    usize::from(u16::from_le_bytes([low, high]))
+    usize::from(u16::from_le_bytes(head))
 }
 
 // The numbers are those of the C interface. The reader answers 0 or 3; a `?` on a line would say that the compiled one
@@ -99,13 +102,4 @@ fn digit_of(answer: u32) -> u8
         3 => b'3',
         _ => b'?',
     }
-}
-
-// A line that was not written whole is said on standard error, and no further line is written.
-fn written(rt: &HostRuntime, lines: &[u8]) -> io::Result<()> {
-    let result = rt.write_all(lines);
-    if result.is_err() {
-        let _ = rt.eprintln("verdicts: a write failed");
-    }
-    result
 }

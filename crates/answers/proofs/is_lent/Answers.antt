@@ -7,8 +7,7 @@ use Rattle.rules.specs.declared.Loan.{Loan}
 use Rattle.rules.specs.Action.{carries}
 use Rattle.state.specs.Stored.{model_of}
 use Rattle.state.specs.Tables.{view_of, is_loan, lent_in}
-use Rattle.tables.specs.Looking.{op_of}
-use Rattle.answers.specs.Answering.{receiver_of}
+use Rattle.tables.specs.Looking.{op_of, receiver_of}
 use Rattle.answers.proofs.is_lent.Goals as goal
 
 pub returns : goal.returns

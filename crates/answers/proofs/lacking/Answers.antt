@@ -7,4 +7,4 @@ use Rattle.answers.proofs.lacking.Goals as goal
 pub returns : goal.returns
 unfolding lacking test
 returns c =
-    rw (c.carries.ensures, c.carries-2.ensures, c.eq.ensures, c.eq-2.ensures, none-is c.args.read, none-is c.args.write)
+    rw (c.is_in.ensures, c.is_in-2.ensures, c.eq.ensures, c.eq-2.ensures, none-is c.args.read, none-is c.args.write)

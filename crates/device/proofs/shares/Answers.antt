@@ -1,14 +1,19 @@
 -- The component that is found is the first of its number.
-use Rattle.std.proofs.Common.{sym, ◌∙◌}
-use Rattle.rules.specs.Lists.{test}
+use Rattle.std.proofs.Common.{rules, ◌∙◌}
+use borrow.Author.Tests.{tests}
+use Rattle.rules.specs.Lists.{find}
 use Rattle.state.specs.Tables.{part_at}
-use Rattle.tables.specs.FindingLaws.{first-some, first_none}
+use Rattle.state.specs.Valid.{is_sharing_provider}
+use Rattle.tables.specs.Finding.{is_part}
+use Rattle.tables.specs.Held.{parts_in}
+use Rattle.tables.specs.FindingLaws.{first}
+use Rattle.device.proofs.Options.{tested}
 use Rattle.device.proofs.shares.Goals as goal
 
-pub returns-in-None : goal.returns-in-None
-unfolding test part_at
-returns-in-None c = rw (first_none _ _ (sym c.part_of.ensures ∙ c.in-None.is))
-
-pub returns-in-Some : goal.returns-in-Some
-unfolding test part_at
-returns-in-Some c = rw (first-some _ _ _ (sym c.part_of.ensures ∙ c.in-Some.is))
+pub returns : goal.returns
+unfolding part_at
+returns c =
+    let mine = is_part c.args.provider in
+    let l = parts_in c.args.parts in
+    tested is_sharing_provider (find mine l) (c.part_of.ensures ∙ first mine l) c.is_some_and.ensures
+    (λ x e. search (rules, tests))

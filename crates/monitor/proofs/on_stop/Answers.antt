@@ -1,8 +1,10 @@
 -- `on_stop` meets its contract: a refusal leaves all, and else the instances and the loans left are those of the next
 -- state.
-use Rattle.monitor.proofs.Kit.{◌∙◌, kept, refused-stays, stop-steps, runs-unasked}
+use Rattle.monitor.proofs.Kit.{ap, ◌∙◌, kept, refused-stays, stop-steps, runs-unasked}
 use Rattle.state.specs.Effects.{loans_after}
 use Rattle.state.specs.Stored.{model_of}
+use Rattle.state.specs.declared.Device.{Device}
+use Rattle.monitor.specs.Made.{with_lent}
 use Rattle.monitor.proofs.on_stop.Goals as goal
 
 pub returns-in-Err : goal.returns-in-Err
@@ -14,6 +16,8 @@ returns-in-Err c =
 pub returns-in-Ok : goal.returns-in-Ok
 unfolding loans_after model_of
 returns-in-Ok c =
-    stop-steps _ _ (kept c.args.on c.well_formed.0) _ _ _ c.in-Ok.is c.args.instance
+    c.with_loans.ensures
+    ∙ stop-steps _ _ (kept c.args.on c.well_formed.0) _ _ _ c.in-Ok.is c.args.instance
     (c.stop-answer.ensures ∙ runs-unasked c.args.on.device c.args.on.lent _) _
-    (let e = c.reduce_stop-left.ensures in rw c.loans.ensures at e) _ c.stop_made.ensures
+    (let e = c.reduce_stop-left.ensures in rw c.loans.ensures at e) _
+    (ap (λ (d : Device). with_lent d c.reduce_stop-left.result.count) c.stop_made.ensures)

@@ -14,7 +14,8 @@ returns-in-Err c =
 pub returns-in-Ok : goal.returns-in-Ok
 unfolding loans_after model_of
 returns-in-Ok c =
-    loans-steps _ _ (kept c.args.on c.well_formed.0) _ _ _ c.in-Ok.is
+    c.with_loans.ensures
+    ∙ loans-steps _ _ (kept c.args.on c.well_formed.0) _ _ _ c.in-Ok.is
     (withdraw c.args.operations c.args.provider c.args.instance c.args.uri)
     (c.withdraw-answer.ensures ∙ withdraw-unasked c.args.on.device c.args.on.lent _ _ _ _) _
     (let e = c.reduce_withdraw-left.ensures in rw c.loans.ensures at e) _ refl

@@ -6,5 +6,5 @@ use Rattle.sheet.proofs.main.Goals as goal
 pub slice_bounds-out-end : goal.slice_bounds-out-end
 slice_bounds-out-end c = (bytes_inside _ _ _ refl c.in-Ok.ensures.value c.in-Ok.ensures.out_after).0
 
-pub slice_bounds-written-end : goal.slice_bounds-written-end
-slice_bounds-written-end c = (bytes_inside _ _ _ refl c.in-Ok.ensures.value c.in-Ok.ensures.out_after).1
+pub slice_bounds-write_or_say-end : goal.slice_bounds-write_or_say-end
+slice_bounds-write_or_say-end c = (bytes_inside _ _ _ refl c.in-Ok.ensures.value c.in-Ok.ensures.out_after).1

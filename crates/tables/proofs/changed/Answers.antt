@@ -15,7 +15,8 @@ loop-i-preserved g c =
       c.loop-i.invariant.0,
       λ to gives.
           rw (gives _ _ (says g.F.Fn made refl))
-          (map_over_more to t.entries c.loop-i.t.entries c.loop-i.i c.index-t-i.result h (c.loop-i.invariant.1 to gives) read),
+          (map_over_more to t.entries c.loop-i.t.entries c.loop-i.i c.index-t-i.result h
+          (c.loop-i.invariant.1 to gives) read),
     )
 
 pub returns : goal.returns

@@ -11,7 +11,7 @@ use Rattle.tables.proofs.granted.Goals as goal
 
 pub returns : goal.returns
 returns c =
-    any_from_yields_List (λ (a : App). eqb a.number c.args.app && mem c.args.permission (list_in a.grants)) _ _ c.any.result
-    c.any.ensures.ran (YieldsList-from_slice _ (c.iter.ensures.rest ∙ c.held.ensures.value))
+    any_from_yields_List (λ (a : App). eqb a.number c.args.app && mem c.args.permission (list_in a.grants)) _ _
+    c.any.result c.any.ensures.ran (YieldsList-from_slice _ (c.iter.ensures.rest ∙ c.held.ensures.value))
     (λ x b q k. search (rules, tests))
     ∙ sym (granted-any _ c.args.app c.args.permission)

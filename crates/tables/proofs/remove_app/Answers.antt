@@ -7,4 +7,5 @@ use Rattle.tables.proofs.remove_app.Goals as goal
 
 pub returns : goal.returns
 returns c =
-    rw (← c.default.ensures) (c.kept.ensures (λ (a : App). not (is_app c.args.number a)) (λ x r k. search (rules, tests)))
+    rw (← c.default.ensures) (c.kept.ensures (λ (a : App). not (is_app c.args.number a))
+    (λ x r k. search (rules, tests)))

@@ -10,4 +10,5 @@ use Rattle.tables.proofs.remove_resources.Goals as goal
 pub returns : goal.returns
 returns c =
     rw (← resource-zero c.default.result c.default.ensures)
-    (c.kept.ensures (λ (x : Resource). not (owned_by (parts_in c.args.parts) c.args.app x.provider)) (λ x r k. search (rules, tests)))
+    (c.kept.ensures (λ (x : Resource). not (owned_by (parts_in c.args.parts) c.args.app x.provider))
+    (λ x r k. search (rules, tests)))

@@ -1,4 +1,5 @@
--- `running_app` meets its contract: the instance, its component and that component's app are the first of their numbers.
+-- `running_app` meets its contract: the instance, its component and that component's app are the first of their
+-- numbers.
 use Rattle.std.proofs.Common.{sym, ◌∙◌}
 use Rattle.rules.specs.Lists.{map_option, or_else}
 use Rattle.state.specs.Tables.{part_at, run_in}
