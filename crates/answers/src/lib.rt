@@ -28,7 +28,7 @@ ghost use Rattle.tables.specs.Looking.{option_of, op_of, receiver_of, view_by, r
 ghost use Rattle.answers.specs.Answering.{answer_in, view_in, access_in, grounds, is_of};
 ghost use Rattle.answers.specs.Starting.{start_with, free_of};
 
-use manifest::Sections;
+use manifest::{Section, Sections};
 use rules::{Answer, Done, Ground, Known, Loan, Part, Reason};
 use state::{App, Apps, Device, Parts, Table};
 use tables::Operation;
@@ -110,8 +110,8 @@ pub fn revoke_group(d: Device, app: u16, group: u16) -> Answer
 
 // ---- instances
 
-/// The person, caller 0, or an instance starts a component. The new number is the lowest that the digits of
-/// `running` leave free.
+/// The person, caller 0 in document 01, or an instance starts a component. The new number is the lowest that the
+/// digits of `running` leave free.
 pub fn start(d: Device, component: u16, caller: u16) -> Answer
     ensures { result ≡ start_with (free_of d.instances.running) (view_in d []) component caller }
 {
@@ -264,25 +264,24 @@ fn clashes(d: Device, bytes: &[u8], m: Sections) -> bool
     requires { verdict_of bytes.now ≡ Some m }
     ensures { result ≡ clash (view_in d []) (laid_out bytes.now) }
 {
-    let c = m.components;
-    let p = m.defines;
     tables::has_app(d.apps, m.app)
-        || (any_entry(c.first, 8, c.count, |at| {
+        || (any_entry(m.components, 8, |at| {
             tables::has_part(d.parts, manifest::component_at(bytes, at).number)
-        }) || any_entry(p.first, 3, p.count, |at| {
+        }) || any_entry(m.defines, 3, |at| {
             let permission = u16::from(manifest::define_at(bytes, at).permission);
             tables::known_of(d.apps, d.definitions, permission).is_some()
         }))
 }
 
 // Does an entry of a section pass a test? The test is given its place. Private, since it takes a closure.
-fn any_entry<F: Fn(usize) -> bool>(first: usize, size: usize, count: u8, passes: F) -> bool
+fn any_entry<F: Fn(usize) -> bool>(section: Section, size: usize, passes: F) -> bool
     requires callable { F.IsAlwaysCallable passes }
-    requires fits { first + size * count ≤ 9223372036854775807 }
-    ensures { (test : ℕ → Bool) → Gives F.Fn passes test → result ≡ any test (entries (λ at. at) size first count) }
+    requires fits { section.first + size * section.count ≤ 9223372036854775807 }
+    ensures { (test : ℕ → Bool) → Gives F.Fn passes test
+        → result ≡ any test (entries (λ at. at) size section.first section.count) }
 {
-    for k in 0..usize::from(count) {
-        if passes(first + size * k) {
+    for k in 0..usize::from(section.count) {
+        if passes(section.first + size * k) {
             return true;
         }
     }

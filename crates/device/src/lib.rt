@@ -352,7 +352,8 @@ fn part_at(parts: Parts, number: u16) -> Part
 
 // ---- grants and groups
 
-// Which of the permissions 0 to 63 are defined and dangerous; `dangerous[p]` says so of permission p.
+// Which of the permissions 0 to 63 are defined and dangerous; `dangerous[p]` says so of permission p. A cast, since a
+// place below 64 fits, and `try_from` would add a branch that is never taken.
 fn dangerous_in(apps: Apps, definitions: Definitions) -> [bool; 64]
     ensures { result ≡ dangerous_in (rows_in apps) (definitions_in definitions) }
 {
@@ -487,7 +488,7 @@ fn loans_distinct(t: &Table<Loan, 128>) -> bool
 
 // ---- helpers
 
-// The count is not past the array, and all is empty past the count.
+// The count is not past the array, and all is empty past the count. Private, as the two below: it takes a closure.
 fn padded<T, const ROOM: usize, F: Fn(&T) -> bool>(table: &Table<T, ROOM>, is_empty: F) -> bool
     requires { F.IsAlwaysCallable is_empty }
     ensures { (test : T → Bool) → Tells F.Fn is_empty test

@@ -20,7 +20,8 @@ use state::{Parts, Table};
 use std::ops::Range;
 use tables::Operation;
 
-/// What an action asks for. A lend's receiver and a written value stand at full width.
+/// What an action asks for. A lend's receiver and a written value stand at full width. Operations are a byte and no
+/// enum, since an action with a byte that names none gets its refusal.
 #[derive(Clone, Copy, PartialEq, Eq)]
 pub enum Asked {
     Install {
@@ -97,7 +98,7 @@ pub struct Lent {
     pub length: usize,
 }
 
-// The numbers of an action record, in their order.
+// The numbers of an action record, in their order. The code is a byte, since every byte of a record is answered for.
 #[derive(Clone, Copy)]
 struct Record {
     code: u8,
@@ -316,7 +317,7 @@ pub fn reduce_withdraw(loans: Loans, provider: u16, uri: u16, operations: u8) ->
     left(loans, |x| kept_withdraw(x, provider, uri, operations))
 }
 
-// What a change makes of each loan, in order; the places past them are zero.
+// What a change makes of each loan, in order; the places past them are zero. Private, as `left`: it takes a closure.
 fn each<F: Fn(Loan) -> Loan>(loans: Loans, change: F) -> Loans
     requires { F.IsAlwaysCallable change }
     ensures { (to : Loan → Loan) → Gives F.Fn change to → result ≡ loans_table (map to (loans_in loans)) }

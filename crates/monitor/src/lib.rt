@@ -472,7 +472,7 @@ fn with<T: Copy, const ROOM: usize>(table: Table<T, ROOM>, entry: T) -> Table<T,
     t
 }
 
-// Each entry of a section put to a table in turn, by the byte at which it begins.
+// Each entry of a section put to a table in turn, by the byte at which it begins. Private, since it takes a closure.
 fn append_all<T: Copy, F: Fn(T, usize) -> T>(
     table: T,
     section: Section,

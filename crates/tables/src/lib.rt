@@ -87,7 +87,7 @@ pub enum Change {
     TakeGroup,
 }
 
-// A built-in permission's level and group.
+// A built-in permission's level and group, bytes as in `Known`.
 #[derive(Clone, Copy)]
 struct BuiltIn {
     level: u8,
@@ -283,7 +283,7 @@ pub fn defines(definitions: Definitions, app: u16, permission: u8) -> bool
         .any(|d| (d.app == app) & (d.define.permission == permission))
 }
 
-/// Is a number among the first `count` bytes?
+/// Is a number among the first `count` bytes? Its contract is for any bytes; `is_on` is the same over an app's list.
 #[tactic(auto, unfolding(rules::specs::Lists::mem))]
 pub fn has_byte(bytes: &[u8], count: usize, number: u16) -> bool
     ensures { result ≡ mem number (take count bytes.now) }
@@ -505,7 +505,7 @@ pub fn remove_instance(instances: Instances, number: u16) -> Instances
     }
 }
 
-/// The lowest of 1 to 64 that no running instance has; 65 where all run.
+/// The lowest of 1 to 64 that no running instance has; 65 where all run, as `next_of` of document 01's rules says it.
 pub fn next_number(instances: Instances) -> u32
     ensures { result ≡ next_of instances.running }
 {

@@ -57,6 +57,7 @@ pub fn sheet_of(tape: &[u8], out: &mut [u8]) -> Result<usize, TooShort>
 
 /// The records of a tape, one after the other at a device and its loan table: the line of each at the front of a lent
 /// buffer. Bytes that are no tape, and a buffer that is too short, leave device and table as they are.
+// Device and table stand apart, as every caller of the monitor has them.
 pub fn run(tape: &[u8], d: Device, lent: [Loan; 128], out: &mut [u8]) -> Ran
     ensures value { result ≡ ran tape.now (held_by d lent) out.old }
     ensures out_after { out.new
@@ -90,6 +91,7 @@ pub fn run(tape: &[u8], d: Device, lent: [Loan; 128], out: &mut [u8]) -> Ran
 
 // ---- reading the tape
 
+// Where both its bytes are known to be there; `number_at` finds that out.
 fn u16_at(s: &[u8], at: usize) -> usize
     requires { at + 2 ≤ length s.now }
     ensures { result ≡ u16_at s.now at }
@@ -261,7 +263,7 @@ impl Writer<'_> {
         self.put_field(lent, b'\n');
     }
 
-    // The line of an action.
+    // The line of an action. Its code is the record's byte, which may name no action.
     fn put_line(&mut self, place: usize, code: u8, answer: Answer)
         requires { (place < 10000) × (self.old.end + 24 ≤ length self.old.buffer.now) }
         ensures written { Written self.old.buffer.now self.old.end (line_text place code answer)

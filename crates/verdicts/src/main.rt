@@ -84,6 +84,7 @@ fn answer_manifest(rt: &HostRuntime, bytes: &mut [u8]) -> io::Result<Next> {
     Ok(Next::Answer(digit_of(manifest::manifest_check(bytes))))
 }
 
+// A function of its own, since its contract bounds the slice that is read.
 fn length_of(head: [u8; 2]) -> usize
     ensures value { result ≡ slice_index head 0 + 256 * slice_index head 1 }
     ensures upper_bound { result ≤ 65535 }

@@ -5,7 +5,7 @@ use Rattle.answers.proofs.Entries.{begin, one-more, none_more}
 use Rattle.answers.proofs.any_entry.Goals as goal
 
 pub loop-k-init : goal.loop-k-init
-loop-k-init g c = λ test gives. begin test c.args.size c.args.first c.args.count
+loop-k-init g c = λ test gives. begin test c.args.size c.args.section.first c.args.section.count
 
 pub returns-then-passes : goal.returns-then-passes
 returns-then-passes g c =
@@ -13,7 +13,7 @@ returns-then-passes g c =
     let told = gives _ _ (says g.F.Fn c.passes.ensures refl) in
     sym
     (c.loop-k.invariant test gives
-    ∙ one-more test c.args.size c.args.first c.args.count c.loop-k.k (rw c.from-k-end.ensures at c.loop-k-test.true)
+    ∙ one-more test c.args.size c.args.section.first c.args.section.count c.loop-k.k (rw c.from-k-end.ensures at c.loop-k-test.true)
     ∙ rw (sym told ∙ c.if-passes.true))
 
 pub loop-k-preserved : goal.loop-k-preserved
@@ -21,7 +21,7 @@ loop-k-preserved g c =
     λ test gives.
     let told = gives _ _ (says g.F.Fn c.passes.ensures refl) in
     c.loop-k.invariant test gives
-    ∙ one-more test c.args.size c.args.first c.args.count c.loop-k.k (rw c.from-k-end.ensures at c.loop-k-test.true)
+    ∙ one-more test c.args.size c.args.section.first c.args.section.count c.loop-k.k (rw c.from-k-end.ensures at c.loop-k-test.true)
     ∙ rw (sym told ∙ c.if-passes.false)
 
 pub returns : goal.returns
@@ -29,4 +29,4 @@ returns g c =
     λ test gives.
     sym
     (c.loop-k.invariant test gives
-    ∙ none_more test c.args.size c.args.first c.args.count c.loop-k.k (rw c.from-k-end.ensures at c.loop-k-test.false))
+    ∙ none_more test c.args.size c.args.section.first c.args.section.count c.loop-k.k (rw c.from-k-end.ensures at c.loop-k-test.false))

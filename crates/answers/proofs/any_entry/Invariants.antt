@@ -8,5 +8,5 @@ use Rattle.answers.proofs.any_entry.Given as goal
 abbrev pub invariant-loop-k : goal.invariant-loop-k
 invariant-loop-k g l =
     (test : ℕ → Bool) → Gives g.F.Fn l.passes test
-    → any test (entries (λ at. at) l.fn.size l.fn.first l.fn.count)
-    ≡ any test (entries (λ at. at) l.fn.size (l.fn.first + l.fn.size * l.k) (l.fn.count - l.k))
+    → any test (entries (λ at. at) l.fn.size l.fn.section.first l.fn.section.count)
+    ≡ any test (entries (λ at. at) l.fn.size (l.fn.section.first + l.fn.size * l.k) (l.fn.section.count - l.k))
