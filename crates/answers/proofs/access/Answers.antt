@@ -1,13 +1,16 @@
 -- `access` meets its contract: the conditions come in the order of the refusals.
-use Rattle.std.proofs.Common.{sym, ◌∙◌}
+use Rattle.std.proofs.Common.{◌≡◌, cond, not, sym, ◌∙◌}
 use Rattle.rules.specs.Lists.{is_some, missing, test, bind, map_option, or_else}
-use Rattle.rules.specs.Grounds.{ground_of}
-use Rattle.rules.specs.Answer.{decide}
-use Rattle.answers.specs.Answering.{access_in}
+use Rattle.rules.specs.declared.Reason.TheVariants.{NotPermitted}
+use Rattle.rules.specs.Grounds.{is_ground, ground_of}
+use Rattle.rules.specs.Answer.{done, refused, decide}
+use Rattle.tables.specs.Looking.{op_of}
+use Rattle.answers.specs.Answering.{access_in, view_in}
 use Rattle.answers.proofs.Grounds.{none-is}
 use Rattle.answers.proofs.Conditions.{got, missed, provider-is, provider-none}
 use Rattle.answers.proofs.Conditions.{refuses, runner-is, runner-none, value-is, value-none}
 use Rattle.answers.proofs.access.Goals as goal
+use Rattle.answers.proofs.access.Goals.{After-ground_of-ground}
 
 pub returns-in_err-part : goal.returns-in_err-part
 unfolding access_in decide missing is_some
@@ -46,9 +49,13 @@ returns-in_err-resource c =
       value-none d lent c.args.provider c.args.uri c.resource_of.ensures resource,
     )
 
-pub returns-then-eq : goal.returns-then-eq
-unfolding access_in decide missing is_some test ground_of bind map_option
-returns-then-eq c =
+-- where the ground is told, the resource has been found
+found : (c : After-ground_of-ground) → let a = c.args in
+    access_in (view_in a.d a.lent) a.provider a.instance a.uri (op_of a.operation)
+    ≡ cond (not (is_ground c.ground_of-ground.result)) (refused NotPermitted)
+    (done c.ground_of-ground.result c.in_ok-resource.resource.value)
+unfolding access_in decide missing is_some test ground_of bind map_option or_else
+found c =
     let d = c.args.d in
     let lent = c.args.lent in
     let part = got c.ok_or.ensures.ok_part c.in_ok-part.was in
@@ -59,23 +66,14 @@ returns-then-eq c =
       runner-is d lent c.args.instance c.runner.ensures app,
       value-is d lent c.args.provider c.args.uri c.resource_of.ensures resource,
       ← c.ground_of-ground.ensures,
-      ← none-is c.ground_of-ground.result,
-      sym c.eq.ensures ∙ c.if-eq.true,
     )
 
+pub returns-then-eq : goal.returns-then-eq
+returns-then-eq c =
+    let path = goal.at.returns-then-eq c in
+    sym (found path.After-ground_of-ground ∙ rw (← none-is c.ground_of-ground.result, sym c.eq.ensures ∙ c.if-eq.true))
+
 pub returns : goal.returns
-unfolding access_in decide missing is_some test ground_of bind map_option or_else
 returns c =
-    let d = c.args.d in
-    let lent = c.args.lent in
-    let part = got c.ok_or.ensures.ok_part c.in_ok-part.was in
-    let app = got c.ok_or-2.ensures.ok_part c.in_ok-app.was in
-    let resource = got c.ok_or-3.ensures.ok_part c.in_ok-resource.was in
-    rw (
-      provider-is d lent c.args.provider c.provider_of.ensures part,
-      runner-is d lent c.args.instance c.runner.ensures app,
-      value-is d lent c.args.provider c.args.uri c.resource_of.ensures resource,
-      ← c.ground_of-ground.ensures,
-      ← none-is c.ground_of-ground.result,
-      sym c.eq.ensures ∙ c.if-eq.false,
-    )
+    let path = goal.at.returns c in
+    sym (found path.After-ground_of-ground ∙ rw (← none-is c.ground_of-ground.result, sym c.eq.ensures ∙ c.if-eq.false))
