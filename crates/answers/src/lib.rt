@@ -416,7 +416,9 @@ fn access(
 {
     let part = provider_of(d.parts, provider).ok_or(Reason::NoSuchComponent)?;
     let app = tables::runner(d.apps, d.parts, d.instances, instance).ok_or(Reason::NoSuchInstance)?;
-    let resource = tables::resource_of(d.resources, provider, uri).ok_or(Reason::NoSuchResource)?;
+    let Some(resource) = tables::resource_of(d.resources, provider, uri) else {
+        return Err(Reason::NoSuchResource);
+    };
     let ground = ground_of(d, lent, app, part, instance, uri, operation);
     if ground == Ground::Nothing {
         return Err(Reason::NotPermitted);

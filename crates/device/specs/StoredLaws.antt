@@ -1,12 +1,13 @@
 -- What the tests of a stored device say, one by one, and the bounds that its counts then have.
-use Rattle.std.specs.Prelude.{ℕ, ◌≤◌, ◌≡◌, Bool, true, ◌&&◌, List, length, take, drop}
+use Rattle.std.specs.Prelude.{ℕ, zero, suc, ◌≤◌, ◌<◌, ◌≡◌, Bool, true, ◌&&◌, List, [], ◌∷◌, length, take, drop, get_or}
 use Rattle.std.specs.Prelude.{eqb, leb}
-use Rattle.std.proofs.Common.{arith, eqb-true, leb-true}
+use Rattle.std.proofs.Common.{arith, not-suc-le-zero, le_of_suc-le-suc, eqb-true, leb-true}
 use Rattle.rules.specs.declared.Loan.{Loan}
 use Rattle.rules.specs.Lists.{all}
 use Rattle.rules.specs.ListsLaws.{and_left, and_right}
+use Rattle.state.specs.declared.App.{App}
 use Rattle.state.specs.declared.Device.{Device}
-use Rattle.state.specs.Stored.{is_zero_definition, is_zero_part, is_zero_resource, is_zero_instance}
+use Rattle.state.specs.Stored.{is_zero, is_zero_definition, is_zero_part, is_zero_resource, is_zero_instance}
 use Rattle.state.specs.Stored.{is_zero_loan, is_zero_app, pads, app_pads, mask_of, formed}
 
 -- ---- what the tests say, one by one
@@ -74,3 +75,30 @@ counts d lent long f = record {
   instances = pads-room is_zero_instance 64 d.instances.list.entries d.instances.list.count f.instances;
   loans = omega (arith, pads-room is_zero_loan (length lent) lent d.lent f.loans);
 }
+
+pub record AppCounts (a : App) : Type 0 where
+  pub used : a.uses.count ≤ 32
+  pub granted : a.grants.count ≤ 32
+  pub grouped : a.groups.count ≤ 15
+
+pub app-counts : (a : App) → app_pads a ≡ true → AppCounts a
+app-counts a e =
+    let u = pads is_zero 32 a.uses.entries a.uses.count in
+    let g = pads is_zero 32 a.grants.entries a.grants.count in
+    let o = pads is_zero 15 a.groups.entries a.groups.count in
+    let e1 = both_of u (g && o) e in
+    let e2 = both_of g o e1.1 in
+    record {
+      used = pads-room is_zero 32 a.uses.entries a.uses.count e1.0;
+      granted = pads-room is_zero 32 a.grants.entries a.grants.count e2.0;
+      grouped = pads-room is_zero 15 a.groups.entries a.groups.count e2.1;
+    }
+
+-- what holds of every entry holds of the one at a place
+pub all-get : {A : Type 0} (f : A → Bool) (l : List A) (k i : ℕ) (d : A) → all f (take k l) ≡ true → i < k
+    → i < length l → f (get_or l i d) ≡ true
+all-get f l zero i d e h b = absurd (not-suc-le-zero h)
+all-get f [] (suc k) i d e h b = absurd (not-suc-le-zero b)
+all-get f (x ∷ l) (suc k) zero d e h b = and_left (f x) (all f (take k l)) e
+all-get f (x ∷ l) (suc k) (suc i) d e h b =
+    all-get f l k i d (and_right (f x) (all f (take k l)) e) (le_of_suc-le-suc h) (le_of_suc-le-suc b)

@@ -142,6 +142,6 @@ differing (x ∷ old) (y ∷ new) e =
 
 -- a slice that holds `old`, with the changed records of `new` written into it, holds `new`
 pub changed-written : (old new : List Loan) → length old ≡ length new
-    → written (changed_in old new).start (changed_in old new).end new old ≡ new
+    → written (changed_in old new).from (changed_in old new).to new old ≡ new
 unfolding changed_in
 changed-written old new e = differing old new e

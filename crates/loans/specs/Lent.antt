@@ -4,7 +4,7 @@ use Rattle.std.specs.Prelude.{ℕ, zero, suc, Bool, true, false, ◌&&◌, cond,
 use Rattle.rules.specs.declared.Loan.{Loan}
 use Rattle.state.specs.Stored.{padded, zero_loan}
 use Rattle.loans.specs.declared.Lent.{Lent}
-use Rattle.std.specs.declared.ops.Range.{Range}
+use Rattle.loans.specs.declared.Range.{Range}
 
 -- a table with no loan in it
 unfoldable pub no_loans : List Loan
@@ -51,5 +51,5 @@ after_change [] m = 0
 after_change (x ∷ l) [] = 0
 after_change (x ∷ l) (y ∷ m) = past (is_same x y) (after_change l m)
 
-unfoldable pub changed_in : (old new : List Loan) → Range ℕ
-changed_in old new = record { start = first_change old new; end = after_change old new }
+unfoldable pub changed_in : (old new : List Loan) → Range
+changed_in old new = record { from = first_change old new; to = after_change old new }

@@ -10,7 +10,7 @@ use Rattle.state.specs.Tables.{is_loan, lent_in}
 use Rattle.state.specs.Effects.{reduce, widened}
 use Rattle.loans.specs.declared.Asked.{Asked}
 use Rattle.loans.specs.declared.Lent.{Lent}
-use Rattle.std.specs.declared.ops.Range.{Range}
+use Rattle.loans.specs.declared.Range.{Range}
 use Rattle.loans.specs.Asked.{asked_of}
 use Rattle.loans.specs.Held.{Loans, loans_in, loans_table, appended, lend_in}
 use Rattle.loans.specs.Held.{keeps_stop, keeps_uninstall, keeps_withdraw}
@@ -66,5 +66,5 @@ pub write-records-only : (l t : List Loan) (from to : ℕ) (r r' : List Loan) �
     → r' ≡ written from to t l → r ≡ r'
 write-records-only l t from to = only_one (written from to t l)
 
-pub changed-only : (old new : List Loan) (r r' : Range ℕ) → r ≡ changed_in old new → r' ≡ changed_in old new → r ≡ r'
+pub changed-only : (old new : List Loan) (r r' : Range) → r ≡ changed_in old new → r' ≡ changed_in old new → r ≡ r'
 changed-only old new = only_one (changed_in old new)

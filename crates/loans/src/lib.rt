@@ -17,7 +17,6 @@ ghost use Rattle.loans.specs.Lent.{no_loans, lent_from, written, first_change, a
 
 use rules::Loan;
 use state::{Parts, Table};
-use std::ops::Range;
 use tables::Operation;
 
 /// What an action asks for. A lend's receiver and a written value stand at full width. Operations are a byte and no
@@ -96,6 +95,14 @@ pub type Receiver = tables::Receiver<u16>;
 pub struct Lent {
     pub table: [Loan; 128],
     pub length: usize,
+}
+
+/// The records from `from` on, up to `to`; none where `to` is not above `from`.
+// No `std::ops::Range`, which is not `Copy`.
+#[derive(Clone, Copy)]
+pub struct Range {
+    pub from: usize,
+    pub to: usize,
 }
 
 // The numbers of an action record, in their order. The code is a byte, since every byte of a record is answered for.
@@ -359,11 +366,11 @@ pub fn copy_out(lent: &[Loan]) -> Lent
 }
 
 /// Writes the records of a table that lie in a range, and touches no other.
-pub fn write_records(lent: &mut [Loan], table: [Loan; 128], range: Range<usize>)
-    ensures { lent.new ≡ written range.start range.end table lent.old }
+pub fn write_records(lent: &mut [Loan], table: [Loan; 128], range: Range)
+    ensures { lent.new ≡ written range.from range.to table lent.old }
 {
-    let from = range.start;
-    let end = range.end.min(128).min(lent.len());
+    let from = range.from;
+    let end = range.to.min(128).min(lent.len());
     if from < end {
         lent[from..end].copy_from_slice(&table[from..end]);
     }
@@ -371,10 +378,13 @@ pub fn write_records(lent: &mut [Loan], table: [Loan; 128], range: Range<usize>)
 
 /// The records in which two tables differ, from the first to the last.
 #[tactic(auto, unfolding(crate::specs::Lent::changed_in))]
-pub fn changed(old: [Loan; 128], new: [Loan; 128]) -> Range<usize>
+pub fn changed(old: [Loan; 128], new: [Loan; 128]) -> Range
     ensures { result ≡ changed_in old new }
 {
-    first_change(old, new)..after_change(old, new)
+    Range {
+        from: first_change(old, new),
+        to: after_change(old, new),
+    }
 }
 
 fn first_change(old: [Loan; 128], new: [Loan; 128]) -> usize

@@ -13,7 +13,7 @@ use Rattle.manifest.specs.Steps.{head_good, head_found, counted, found}
 use Rattle.manifest.specs.Verdict.{verdict_of}
 
 -- what the reader asks of a section is what the lists ask, where its entries lie within the bytes
-counted_few : {A : Type 0} (f : List ℕ → ℕ → A) (size most : ℕ) (s : List ℕ) (a : ℕ) (ok : Bool)
+pub counted_few : {A : Type 0} (f : List ℕ → ℕ → A) (size most : ℕ) (s : List ℕ) (a : ℕ) (ok : Bool)
     → after size s a ≤ length s → (at_most most (section f size s a) && ok) ≡ (counted size most s a && ok)
 counted_few f size most s a ok h = rw (length-entries (f s) size (a + 1) (u8_at s a), le-leb _ _ h)
 
@@ -45,7 +45,7 @@ module _ (s : List ℕ) where
       resources_rise (section component_at 8 s (components_place s)) 0 (section resource_at 8 s (resources_place s))
 
   -- what the reader asks
-  abbrev asked : Bool
+  abbrev pub asked : Bool
   asked =
       head_good s 0
       && (counted 1 32 s uses_place && uses_rising
@@ -53,7 +53,7 @@ module _ (s : List ℕ) where
       && (counted 8 16 s (components_place s) && components_rising
       && (counted 8 32 s (resources_place s) && resources_rising))))
 
-  good_is : (b : Bool) → eqb (end_place s) (length s) ≡ b → good_bytes s ≡ (b && asked)
+  pub good_is : (b : Bool) → eqb (end_place s) (length s) ≡ b → good_bytes s ≡ (b && asked)
   good_is false e = rw e
   good_is true e =
       let ends = eqb-true (end_place s) (length s) e in

@@ -290,11 +290,14 @@ impl<'a, E: Entry> Entries<'a, E> {
         self.section.first + E::SIZE * usize::from(self.section.count)
     }
 
-    fn get(&self, k: usize) -> E
+    /// Where entry k stands. It is read by the loops themselves: handed on by a function between, its fields are put
+    /// together and taken apart once more at each turn.
+    fn place(&self, k: usize) -> usize
         requires { k < self.now.section.count }
-        ensures { result ≡ E.entry self.now.src.now (self.now.section.first + E.SIZE * k) }
+        ensures value { result ≡ self.now.section.first + E.SIZE * k }
+        ensures within { result + E.SIZE ≤ length self.now.src.now }
     {
-        E::read(self.src, self.section.first + E::SIZE * k)
+        self.section.first + E::SIZE * k
     }
 
     /// Each is good by itself, and their keys rise.
@@ -304,7 +307,7 @@ impl<'a, E: Entry> Entries<'a, E> {
     {
         let mut low = 0;
         for k in 0..usize::from(self.section.count) {
-            let entry = self.get(k);
+            let entry = E::read(self.src, self.place(k));
             let key = entry.key();
             if key <= low || !entry.good() {
                 return false;
@@ -322,7 +325,7 @@ impl<'a> Entries<'a, Component> {
         ensures { result ≡ any (is_provider_of p) (listed component_at 8 self.now.src.now self.now.section) }
     {
         for k in 0..usize::from(self.section.count) {
-            if is_provider_of(self.get(k), p) {
+            if is_provider_of(Component::read(self.src, self.place(k)), p) {
                 return true;
             }
         }
@@ -341,7 +344,7 @@ impl<'a> Entries<'a, Resource> {
         let mut low = 0;
         let mut last = None;
         for k in 0..usize::from(self.section.count) {
-            let r = self.get(k);
+            let r = Resource::read(self.src, self.place(k));
             let key = r.key();
             let known = last == Some(r.provider) || components.has_provider(r.provider);
             if key <= low || !r.good() || !known {

@@ -11,12 +11,14 @@ use denote.Array.{each}
 use denote.Shadow.{shadow}
 use denote.Struct.Declared.{row}
 use mir.Val.{Val}
+use Rattle.rules.specs.declared.Loan.{Loan}
 use Rattle.rules.specs.Lists.{all}
 use Rattle.rules.specs.ListsLaws.{both}
 use Rattle.state.specs.contracts.Device as device-type
 use Rattle.state.specs.contracts.App as app-type
 use Rattle.state.specs.declared.Device.{Device}
 use Rattle.state.specs.declared.App.{App}
+use Rattle.state.specs.Stored.{valid_stored}
 use Rattle.state.specs.FormedLaws.{is_sized, Sized}
 use Rattle.monitor.specs.StepLaws.{Kept, stored-kept}
 use Rattle.monitor.specs.contracts.Valid as valid-type
@@ -49,14 +51,18 @@ sizes d g =
     }
 
 -- a valid device that is owned
+pub kept_by : {d : Device} {lent : List Loan} {vs : List Val} → Is (row device-type.the_type) d vs
+    → valid_stored d lent ≡ true → Kept d lent
+kept_by {d} {lent} g v = stored-kept d lent (sizes d g) v
+
 pub kept : (on : Valid) {vs : List Val} → Is (row valid-type.the_type) on vs → Kept on.device on.lent
-kept on g = stored-kept on.device on.lent (sizes on.device g.1.1.0) on.valid
+kept on g = kept_by g.1.1.0 on.valid
 
 number-narrow : (a : App) (vs : List Val) → Is (row app-type.the_type) a vs → leb a.number 65535 ≡ true
 number-narrow a vs g = let h = g.1.1.0 in le-leb a.number 65535 (omega arith)
 
 -- an app's number is a number of two bytes
-pub numbers-narrow : (on : Valid) {vs : List Val} → Is (row valid-type.the_type) on vs
-    → all (λ a. leb a.number 65535) on.device.apps.entries ≡ true
-numbers-narrow on g =
-    each_app (λ a. leb a.number 65535) number-narrow on.device.apps.entries _ g.1.1.0.1.1.0.1.1.0.1.1
+pub numbers-narrow : (d : Device) {vs : List Val} → Is (row device-type.the_type) d vs
+    → all (λ a. leb a.number 65535) d.apps.entries ≡ true
+numbers-narrow d g =
+    each_app (λ a. leb a.number 65535) number-narrow d.apps.entries _ g.1.1.0.1.1.0.1.1

@@ -13,7 +13,7 @@ use Rattle.state.specs.declared.Device.{Device}
 use Rattle.state.specs.Stored.{valid_stored}
 use Rattle.state.specs.Step.{step_answer, step_device, step_lent}
 use Rattle.loans.specs.declared.Lent.{Lent}
-use Rattle.std.specs.declared.ops.Range.{Range}
+use Rattle.loans.specs.declared.Range.{Range}
 use Rattle.loans.specs.Lent.{copied, lent_from, written, changed_in}
 use Rattle.loans.specs.ChangeLaws.{changed-written}
 use Rattle.monitor.specs.declared.Stepped.{Stepped}
@@ -53,8 +53,8 @@ module _ (d : Device) (l : List Loan) (action manifest : List ℕ) where
     refused-lent e = let n = not-stored (λ h. e (lengths ∙ h)) in (rw n, rw n)
 
     pub stepped-lent : out.length ≡ 128 → (s : Stepped) → s ≡ stepped d out.table action manifest
-        → length s.lent ≡ 128 → (r : Range ℕ) → r ≡ changed_in out.table s.lent
-        → (zs : List Loan) → zs ≡ written r.start r.end s.lent l
+        → length s.lent ≡ 128 → (r : Range) → r ≡ changed_in out.table s.lent
+        → (zs : List Loan) → zs ≡ written r.from r.to s.lent l
         → Stepping (record { device = s.device; answer = s.answer }) zs
     unfolding stepped
     stepped-lent e s f k r g zs q =
@@ -62,6 +62,6 @@ module _ (d : Device) (l : List Loan) (action manifest : List ℕ) where
         let same = f ∙ ap (λ (t : List Loan). stepped d t action manifest) (tables n) in
         let range = g ∙ ap (λ (t : List Loan). changed_in t s.lent) (tables n) in (
           ap (λ (z : Stepped). record { device = z.device; answer = z.answer }) same,
-          q ∙ ap (λ (z : Range ℕ). written z.start z.end s.lent l) range ∙ changed-written l s.lent (n ∙ sym k)
+          q ∙ ap (λ (z : Range). written z.from z.to s.lent l) range ∙ changed-written l s.lent (n ∙ sym k)
               ∙ ap (λ (z : Stepped). z.lent) same,
         )

@@ -6,7 +6,6 @@ ghost use Rattle.manifest.specs.Layout.{u8_at, entries, manifest_of};
 ghost use Rattle.rules.specs.Action.{on_apps, install, uninstall, on_grants};
 ghost use Rattle.rules.specs.Action.{on_runs, start, stop, write, on_loans, lend, withdraw};
 ghost use Rattle.state.specs.Stored.{app_from, model_of, valid_stored};
-ghost use Rattle.state.specs.Listed.{appended};
 ghost use Rattle.tables.specs.Looking.{receiver_of};
 ghost use Rattle.loans.specs.Asked.{action_from};
 ghost use Rattle.monitor.specs.Stepped.{answer_to, stepped_by, stepped};
@@ -383,10 +382,8 @@ impl<'a> Found<'a> {
     fn install_made(&self, d: Device, image: bool) -> Device
         ensures { result ≡ install_made self.now.bytes.now image self.now.sections d }
     {
-        let mut apps = d.apps;
-        apps.push(self.app_made(image));
         Device {
-            apps,
+            apps: tables::append_app(d.apps, self.app_made(image)),
             definitions: self.definitions_made(d.definitions),
             parts: self.parts_made(d.parts),
             resources: self.resources_made(d.resources),
@@ -416,7 +413,7 @@ impl<'a> Found<'a> {
         let app = self.sections.app;
         append_all(definitions, self.sections.defines, 3, |t, at| {
             let define = manifest::define_at(s, at);
-            with(t, Definition { app, define })
+            tables::append_definition(t, Definition { app, define })
         })
     }
 
@@ -427,7 +424,7 @@ impl<'a> Found<'a> {
         let app = self.sections.app;
         append_all(parts, self.sections.components, 8, |t, at| {
             let component = manifest::component_at(s, at);
-            with(t, Part { app, component })
+            tables::append_part(t, Part { app, component })
         })
     }
 
@@ -439,7 +436,7 @@ impl<'a> Found<'a> {
             resources,
             self.sections.resources,
             8,
-            |t, at| with(t, manifest::resource_at(s, at)),
+            |t, at| tables::append_resource(t, manifest::resource_at(s, at)),
         )
     }
 }
@@ -461,15 +458,6 @@ fn add_use(app: App, permission: u8) -> App
     let mut a = app;
     a.uses.push(permission);
     a
-}
-
-// A table with one entry more.
-fn with<T: Copy, const ROOM: usize>(table: Table<T, ROOM>, entry: T) -> Table<T, ROOM>
-    ensures { result ≡ appended ROOM table entry }
-{
-    let mut t = table;
-    t.push(entry);
-    t
 }
 
 // Each entry of a section put to a table in turn, by the byte at which it begins. Private, since it takes a closure.

@@ -120,6 +120,27 @@ impl From<Ground> for u32 {
     }
 }
 
+/// The number of a refusal, by name.
+pub fn number(reason: Reason) -> u32
+    ensures { result ≡ number_of reason }
+{
+    u32::from(reason)
+}
+
+/// The number of a ground, by name.
+pub fn ground_number(ground: Ground) -> u32
+    ensures { result ≡ ground_number ground }
+{
+    u32::from(ground)
+}
+
+/// Is the permission held? As `Hold::is_held` says it.
+pub fn held(hold: Hold) -> bool
+    ensures { result ≡ is_held hold }
+{
+    hold.is_held()
+}
+
 impl Hold {
     /// Is the permission held?
     pub fn is_held(self) -> bool

@@ -2,7 +2,7 @@
 use Prim.Native.Nat.{ℕ, suc, ◌+◌, ◌-◌, ◌≤◌, ◌<◌, min}
 use Rattle.std.proofs.Math.Path.{◌≡◌, refl}
 use Rattle.std.proofs.Common.{sym, ap, ◌∙◌, length-take, get_or-take}
-use Rattle.std.specs.Prelude.{Bool, length, take, get_or}
+use Rattle.std.specs.Prelude.{Bool, ◌||◌, length, take, get_or}
 use Rattle.std.proofs.Math.Bool.{true, false, cond}
 use mathlib.Core.List.{List, [], ◌∷◌}
 use Rattle.std.proofs.Math.Option.{none, some}
@@ -11,6 +11,7 @@ use Rattle.std.proofs.Math.Nat.{sub-zero}
 use Rattle.rules.specs.Lists.{any, find}
 use Rattle.rules.specs.ListsLaws.{find-any}
 use Rattle.std.specs.List.{position_from}
+use Rattle.std.specs.Option.{is_some}
 use Rattle.std.specs.Prelude.{Some, None}
 use Rattle.std.proofs.lemmas.Iterator.Adapters.{position_from-zero}
 use Rattle.tables.specs.Finding.{place_of, first_of}
@@ -27,6 +28,19 @@ module _ {A : Type 0} (f : A → Bool) where
           → cond t (Some i) (position_from f (i + 1) l) ≡ None → cond t (some x) (find f l) ≡ none
       go true h e = absurd (let z : ◌≡◌ {A = ℕ} 0 1 = cc in omega arith)
       go false h e = h e
+
+  somewhere : (i : ℕ) (l : List A) → is_some (position_from f i l) ≡ any f l
+  somewhere i [] = refl
+  somewhere i (x ∷ l) = go (f x) (somewhere (i + 1) l)
+    where
+      go : (t : Bool) → is_some (position_from f (i + 1) l) ≡ any f l
+          → is_some (cond t (Some i) (position_from f (i + 1) l)) ≡ t || any f l
+      go true h = refl
+      go false h = h
+
+  -- a place is found exactly if some entry passes
+  pub at-if-any : (l : List A) → is_some (place_of f l) ≡ any f l
+  at-if-any l = ap is_some (position_from-zero f l) ∙ somewhere 0 l
 
   -- no entry passes
   pub not_found : (l : List A) → place_of f l ≡ None → find f l ≡ none

@@ -11,7 +11,7 @@ ghost use Rattle.rules.specs.Action.{carries};
 ghost use Rattle.rules.specs.Permissions.{built_in, known, hold, holds, allows};
 ghost use Rattle.rules.specs.Grounds.{permission_for, right_ground};
 ghost use Rattle.state.specs.Effects.{put};
-ghost use Rattle.state.specs.Listed.{list_in, table_of};
+ghost use Rattle.state.specs.Listed.{list_in, table_of, appended};
 ghost use Rattle.state.specs.Stored.{row_of};
 ghost use Rattle.state.specs.Tables.{apps_of, defined_in, known_from, app_number, is_resource, owned_by, defined_by};
 ghost use Rattle.state.specs.Tables.{granted_in, grouped_in};
@@ -477,6 +477,36 @@ pub fn remove_resources(resources: Resources, parts: Parts, app: u16) -> Resourc
     )
 }
 
+// ---- additions: a full table stays as it is, as `Table::push` leaves it
+
+/// One app more, at the end.
+pub fn append_app(apps: Apps, app: App) -> Apps
+    ensures { result ≡ appended 16 apps app }
+{
+    with(apps, app)
+}
+
+/// One definition more.
+pub fn append_definition(definitions: Definitions, definition: Definition) -> Definitions
+    ensures { result ≡ appended 256 definitions definition }
+{
+    with(definitions, definition)
+}
+
+/// One component more.
+pub fn append_part(parts: Parts, part: Part) -> Parts
+    ensures { result ≡ appended 64 parts part }
+{
+    with(parts, part)
+}
+
+/// One resource more.
+pub fn append_resource(resources: Resources, resource: Resource) -> Resources
+    ensures { result ≡ appended 128 resources resource }
+{
+    with(resources, resource)
+}
+
 // ---- running numbers
 
 /// One instance more, with its running number; a full table stays as it is.
@@ -543,6 +573,15 @@ pub fn drop_grants(apps: Apps, definitions: Definitions, app: u16) -> Apps
 }
 
 // ---- helpers
+
+// A table with one entry more.
+fn with<T: Copy, const ROOM: usize>(table: Table<T, ROOM>, entry: T) -> Table<T, ROOM>
+    ensures { result ≡ appended ROOM table entry }
+{
+    let mut t = table;
+    t.push(entry);
+    t
+}
 
 // The entries that pass a test, in their order, and zero past them. Private, as all that take a closure: it has to be
 // callable, and no function that another crate can reach has a `requires`.

@@ -21,11 +21,15 @@ use Rattle.tape.specs.Written.{Written}
 use Rattle.tape.proofs.Writing.{then}
 use Rattle.tape.proofs.Decimal.{as-printed}
 
-pub length-field : (n b : ℕ) → n < 2 ^ 64 → length (field n b) ≡ length (printed n) + 1
-length-field n b h = length-append (decimal n) (b ∷ []) ∙ ap (λ (t : List ℕ). length t + 1) (as-printed n h)
+pub length-field : (n b : ℕ) → length (field n b) ≡ length (decimal n) + 1
+length-field n b = length-append (decimal n) (b ∷ [])
+
+-- the same, as the library prints the number
+pub length-printed : (n b : ℕ) → n < 2 ^ 64 → length (field n b) ≡ length (printed n) + 1
+length-printed n b h = length-field n b ∙ ap (λ (t : List ℕ). length t + 1) (as-printed n h)
 
 field-most : (k n b : ℕ) → 0 < k → n < 10 ^ k → n < 2 ^ 64 → length (field n b) ≤ k + 1
-field-most k n b p h l = omega (arith, length-field n b l, length-decimal-le k n p h l)
+field-most k n b p h l = omega (arith, length-printed n b l, length-decimal-le k n p h l)
 
 -- a code, the place of an action, a value and a count, each with the byte after it
 pub code-field : (n b : ℕ) → n < 256 → length (field n b) ≤ 4

@@ -34,37 +34,34 @@ returns-in_err-app c =
       runner-none d lent c.args.instance c.runner.ensures app,
     )
 
-pub returns-in_err-resource : goal.returns-in_err-resource
+pub returns-in_default : goal.returns-in_default
 unfolding access_in decide missing is_some
-returns-in_err-resource c =
+returns-in_default c =
     let d = c.args.d in
     let lent = c.args.lent in
     let part = got c.ok_or.ensures.ok_part c.in_ok-part.was in
     let app = got c.ok_or-2.ensures.ok_part c.in_ok-app.was in
-    let resource = missed c.ok_or-3.ensures.ok_part c.in_err-resource.was in
-    refuses _ _ c.ok_or-3.ensures.value c.in_err-resource.was c.from_residual-in_err-resource.ensures.1
-    ∙ rw (
+    rw (
       provider-is d lent c.args.provider c.provider_of.ensures part,
       runner-is d lent c.args.instance c.runner.ensures app,
-      value-none d lent c.args.provider c.args.uri c.resource_of.ensures resource,
+      value-none d lent c.args.provider c.args.uri c.resource_of.ensures c.in_default.is,
     )
 
 -- where the ground is told, the resource has been found
 found : (c : After-ground_of-ground) → let a = c.args in
     access_in (view_in a.d a.lent) a.provider a.instance a.uri (op_of a.operation)
     ≡ cond (not (is_ground c.ground_of-ground.result)) (refused NotPermitted)
-    (done c.ground_of-ground.result c.in_ok-resource.resource.value)
+    (done c.ground_of-ground.result c.in-Some.resource.value)
 unfolding access_in decide missing is_some test ground_of bind map_option or_else
 found c =
     let d = c.args.d in
     let lent = c.args.lent in
     let part = got c.ok_or.ensures.ok_part c.in_ok-part.was in
     let app = got c.ok_or-2.ensures.ok_part c.in_ok-app.was in
-    let resource = got c.ok_or-3.ensures.ok_part c.in_ok-resource.was in
     rw (
       provider-is d lent c.args.provider c.provider_of.ensures part,
       runner-is d lent c.args.instance c.runner.ensures app,
-      value-is d lent c.args.provider c.args.uri c.resource_of.ensures resource,
+      value-is d lent c.args.provider c.args.uri c.resource_of.ensures c.in-Some.is,
       ← c.ground_of-ground.ensures,
     )
 

@@ -9,10 +9,10 @@ returns-then-from-end c =
     let a = c.args in
     let long = table-long a.table c.well_formed.1.0 in
     rw c.copy_from_slice.ensures.after
-    (middle_written a.range.start (c.min-end.result - a.range.start) a.range.end a.table a.lent.now (omega arith))
+    (middle_written a.range.from (c.min-end.result - a.range.from) a.range.to a.table a.lent.now (omega arith))
 
 pub returns-else-from-end : goal.returns-else-from-end
 returns-else-from-end c =
     let a = c.args in
     let long = table-long a.table c.well_formed.1.0 in
-    sym (none_written a.range.start a.range.end a.table a.lent.now (omega arith))
+    sym (none_written a.range.from a.range.to a.table a.lent.now (omega arith))

@@ -3,18 +3,18 @@ use Rattle.tape.proofs.Kit.{ap, ◌∙◌, arith}
 use Rattle.std.specs.Prelude.{length}
 use Rattle.tape.proofs.Decimal.{as-printed}
 use Rattle.tape.proofs.Writing.{then}
-use Rattle.tape.proofs.Fields.{length-field}
+use Rattle.tape.proofs.Fields.{length-printed}
 use Rattle.tape.proofs.Writer.put_field.Goals as goal
 
 pub put-requires : goal.put-requires
 put-requires c =
     let text = c.as_bytes.ensures.value ∙ c.format.ensures.text in
-    omega (arith, ap length text, length-field c.args.n c.args.ending (omega arith))
+    omega (arith, ap length text, length-printed c.args.n c.args.ending (omega arith))
 
 pub put-requires-2 : goal.put-requires-2
 put-requires-2 c =
     let text = c.as_bytes.ensures.value ∙ c.format.ensures.text in
-    omega (arith, ap length text, length-field c.args.n c.args.ending (omega arith))
+    omega (arith, ap length text, length-printed c.args.n c.args.ending (omega arith))
 
 pub returns-clause-written : goal.returns-clause-written
 returns-clause-written c =
