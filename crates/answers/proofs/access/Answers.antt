@@ -1,11 +1,13 @@
 -- `access` meets its contract: the conditions come in the order of the refusals.
-use Rattle.std.proofs.Common.{◌≡◌, cond, not, sym, ◌∙◌}
+use Rattle.std.proofs.Common.{◌≡◌, cond, not, sym, refl, ◌∙◌}
 use Rattle.rules.specs.Lists.{is_some, missing, test, bind, map_option, or_else}
-use Rattle.rules.specs.declared.Reason.TheVariants.{NotPermitted}
+use Rattle.rules.specs.declared.Reason.TheVariants.{NoSuchComponent, NoSuchInstance, NoSuchResource, NotPermitted}
 use Rattle.rules.specs.Grounds.{is_ground, ground_of}
 use Rattle.rules.specs.Answer.{done, refused, decide}
 use Rattle.tables.specs.Looking.{op_of}
 use Rattle.answers.specs.Answering.{access_in, view_in}
+use Rattle.answers.specs.AnsweringLaws.{passes, refuses as is_refused}
+use Rattle.answers.specs.GroundsLaws.{gone, there}
 use Rattle.answers.proofs.Grounds.{none-is}
 use Rattle.answers.proofs.Conditions.{got, missed, provider-is, provider-none}
 use Rattle.answers.proofs.Conditions.{refuses, runner-is, runner-none, value-is, value-none}
@@ -13,39 +15,33 @@ use Rattle.answers.proofs.access.Goals as goal
 use Rattle.answers.proofs.access.Goals.{After-ground_of-ground}
 
 pub returns-in_err-part : goal.returns-in_err-part
-unfolding access_in decide missing is_some
+unfolding access_in
 returns-in_err-part c =
-    let d = c.args.d in
-    let lent = c.args.lent in
+    let a = c.args in
     let part = missed c.ok_or.ensures.ok_part c.in_err-part.was in
     refuses _ _ c.ok_or.ensures.value c.in_err-part.was c.from_residual.ensures.1
-    ∙ rw (provider-none d lent c.args.provider c.provider_of.ensures part)
+    ∙ is_refused NoSuchComponent _ _ (sym (gone (provider-none a.d a.lent a.provider c.provider_of.ensures part))) refl
 
 pub returns-in_err-app : goal.returns-in_err-app
-unfolding access_in decide missing is_some
+unfolding access_in
 returns-in_err-app c =
-    let d = c.args.d in
-    let lent = c.args.lent in
+    let a = c.args in
     let part = got c.ok_or.ensures.ok_part c.in_ok-part.was in
     let app = missed c.ok_or-2.ensures.ok_part c.in_err-app.was in
     refuses _ _ c.ok_or-2.ensures.value c.in_err-app.was c.from_residual-in_err-app.ensures.1
-    ∙ rw (
-      provider-is d lent c.args.provider c.provider_of.ensures part,
-      runner-none d lent c.args.instance c.runner.ensures app,
-    )
+    ∙ is_refused NoSuchInstance _ _ (sym (gone (runner-none a.d a.lent a.instance c.runner.ensures app))) refl
+    ∙ passes NoSuchComponent _ _ (sym (there (provider-is a.d a.lent a.provider c.provider_of.ensures part))) refl
 
 pub returns-in_default : goal.returns-in_default
-unfolding access_in decide missing is_some
+unfolding access_in
 returns-in_default c =
-    let d = c.args.d in
-    let lent = c.args.lent in
+    let a = c.args in
     let part = got c.ok_or.ensures.ok_part c.in_ok-part.was in
     let app = got c.ok_or-2.ensures.ok_part c.in_ok-app.was in
-    rw (
-      provider-is d lent c.args.provider c.provider_of.ensures part,
-      runner-is d lent c.args.instance c.runner.ensures app,
-      value-none d lent c.args.provider c.args.uri c.resource_of.ensures c.in_default.is,
-    )
+    let value = value-none a.d a.lent a.provider a.uri c.resource_of.ensures c.in_default.is in
+    is_refused NoSuchResource _ _ (sym (gone value)) refl
+    ∙ passes NoSuchInstance _ _ (sym (there (runner-is a.d a.lent a.instance c.runner.ensures app))) refl
+    ∙ passes NoSuchComponent _ _ (sym (there (provider-is a.d a.lent a.provider c.provider_of.ensures part))) refl
 
 -- where the ground is told, the resource has been found
 found : (c : After-ground_of-ground) → let a = c.args in

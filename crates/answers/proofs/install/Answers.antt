@@ -1,11 +1,13 @@
 -- `install` meets its contract: the verdict tells whether the manifest is good, and where its sections stand.
-use Rattle.std.proofs.Common.{sym, ◌∙◌}
+use Rattle.std.proofs.Common.{sym, refl, ◌∙◌}
 use Rattle.std.proofs.lemmas.List.{length-map}
+use Rattle.rules.specs.declared.Reason.TheVariants.{MalformedManifest}
 use Rattle.rules.specs.Refusals.{refusals}
 use Rattle.rules.specs.Answer.{decide, answer, ground_for, value_for}
 use Rattle.state.specs.Stored.{row_of, model_of}
 use Rattle.state.specs.Tables.{view_of}
 use Rattle.tables.specs.Held.{apps_in}
+use Rattle.answers.specs.AnsweringLaws.{refuses as is_refused}
 use Rattle.answers.specs.InstallingLaws.{malformed, read-good, crowded-is}
 use Rattle.answers.proofs.install.Goals as goal
 
@@ -13,8 +15,10 @@ pub clashes-requires : goal.clashes-requires
 clashes-requires c = sym c.check.ensures ∙ c.in-Some.is
 
 pub returns-in_default : goal.returns-in_default
-unfolding answer refusals decide
-returns-in_default c = rw (malformed c.args.bytes.now (sym c.check.ensures ∙ c.in_default.is))
+unfolding answer refusals
+returns-in_default c =
+    let bad = malformed c.args.bytes.now (sym c.check.ensures ∙ c.in_default.is) in
+    is_refused MalformedManifest _ _ (sym bad) refl
 
 pub returns-then-clashes : goal.returns-then-clashes
 unfolding answer refusals decide

@@ -1,7 +1,7 @@
 -- `lend` meets its contract: the conditions come in the order of the refusals.
-use Rattle.std.proofs.Common.{◌≡◌, ◌&&◌, ◌||◌, cond, not, eqb, leb, sym, ◌∙◌}
+use Rattle.std.proofs.Common.{◌≡◌, ◌&&◌, ◌||◌, cond, not, eqb, leb, ap, sym, ◌∙◌}
 use Rattle.rules.specs.declared.Ground.TheVariants.{Nothing}
-use Rattle.rules.specs.declared.Reason.TheVariants.{NotPermitted, NoRoom}
+use Rattle.rules.specs.declared.Reason.TheVariants.{MalformedAction, NotPermitted, NoRoom}
 use Rattle.rules.specs.Limits.{large}
 use Rattle.rules.specs.Action.{on_loans, lend}
 use Rattle.rules.specs.Lists.{is_some, missing, test, bind, map_option}
@@ -12,15 +12,16 @@ use Rattle.state.specs.Stored.{model_of}
 use Rattle.state.specs.Tables.{view_of}
 use Rattle.tables.specs.Looking.{receiver_of}
 use Rattle.answers.specs.Answering.{view_in}
+use Rattle.answers.specs.AnsweringLaws.{refuses as is_refused}
 use Rattle.answers.proofs.Conditions.{got, missed, provider-is, provider-none, receiving-app}
 use Rattle.answers.proofs.Conditions.{receiving-instance, refuses, runner-is, runner-none, value-is, value-none}
 use Rattle.answers.proofs.lend.Goals as goal
 use Rattle.answers.proofs.lend.Goals.{After-lacking}
 
 pub returns-then-not-is_operations : goal.returns-then-not-is_operations
-unfolding answer refusals decide missing is_some
+unfolding answer refusals
 returns-then-not-is_operations c =
-    rw (sym c.is_operations.ensures ∙ c.if-not-is_operations.true)
+    is_refused MalformedAction _ _ (ap not c.is_operations.ensures) (ap not c.if-not-is_operations.true)
 
 pub returns-then-no_receiving_app : goal.returns-then-no_receiving_app
 unfolding answer refusals decide missing is_some

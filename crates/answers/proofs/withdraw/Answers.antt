@@ -1,5 +1,6 @@
 -- `withdraw` meets its contract: the conditions come in the order of the refusals.
-use Rattle.std.proofs.Common.{sym, ◌∙◌, []}
+use Rattle.std.proofs.Common.{not, ap, sym, ◌∙◌, []}
+use Rattle.rules.specs.declared.Reason.TheVariants.{MalformedAction}
 use Rattle.rules.specs.Lists.{is_some, missing, test, bind, map_option}
 use Rattle.rules.specs.Permissions.{known, hold, holds, allows}
 use Rattle.rules.specs.Grounds.{right_ground, right_of}
@@ -8,14 +9,15 @@ use Rattle.rules.specs.Answer.{decide, answer, ground_for, value_for}
 use Rattle.state.specs.Stored.{model_of}
 use Rattle.state.specs.Tables.{view_of}
 use Rattle.tables.specs.Looking.{view_by}
+use Rattle.answers.specs.AnsweringLaws.{refuses as is_refused}
 use Rattle.answers.proofs.Conditions.{got, missed, provider-is, provider-none}
 use Rattle.answers.proofs.Conditions.{refuses, runner-is, runner-none, value-is, value-none}
 use Rattle.answers.proofs.withdraw.Goals as goal
 
 pub returns-then-not-is_operations : goal.returns-then-not-is_operations
-unfolding answer refusals decide missing is_some
+unfolding answer refusals
 returns-then-not-is_operations c =
-    rw (sym c.is_operations.ensures ∙ c.if-not-is_operations.true)
+    is_refused MalformedAction _ _ (ap not c.is_operations.ensures) (ap not c.if-not-is_operations.true)
 
 pub returns-in_err-part : goal.returns-in_err-part
 unfolding answer refusals decide missing is_some
