@@ -1,5 +1,5 @@
--- What is asked of a thing looked for and of a ground, which tables an instance and a receiver depend on, and a write as
--- an access with another value.
+-- What is asked of a thing looked for and of a ground, which tables an instance and a receiver depend on, and a write
+-- as an access with another value.
 use Rattle.std.specs.Prelude.{ℕ, ◌≡◌, refl, Bool, true, false, not, cond, List, [], ◌∷◌, Ok, Err, leb, length, take}
 use Rattle.std.proofs.Common.{◌∙◌, sym, length-take, arith, leb-true, leb-false, le-leb}
 use Rattle.std.proofs.Math.Option.{Option, none, some}

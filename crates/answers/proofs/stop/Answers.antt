@@ -12,9 +12,10 @@ pub returns-in_err-ok_or : goal.returns-in_err-ok_or
 unfolding answer refusals
 returns-in_err-ok_or c =
     let d = c.args.d in
-    let running = missed c.ok_or.ensures.ok_part c.in_err-ok_or.was in
+    let stopped = missed c.ok_or.ensures.ok_part c.in_err-ok_or.was in
+    let none = instance-none d [] c.args.instance c.instance_of.ensures stopped in
     refuses _ _ c.ok_or.ensures.value c.in_err-ok_or.was c.from_residual.ensures.1
-    ∙ is_refused NoSuchInstance [] _ (sym (gone (instance-none d [] c.args.instance c.instance_of.ensures running))) refl
+    ∙ is_refused NoSuchInstance [] _ (sym (gone none)) refl
 
 pub returns : goal.returns
 unfolding answer refusals ground_for value_for

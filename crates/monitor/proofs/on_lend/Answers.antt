@@ -28,8 +28,8 @@ returns-in_default c =
     let on = kept c.args.on c.well_formed.0 in
     c.unchanged.ensures ∙ elim c.in_default.branch [
       | in_default-via-in-Ok+in_default w ↦
-          lend-stays _ _ _ _ _ _ (receiver_of c.args.receiver) _ on (numbers-narrow c.args.on.device c.well_formed.0.1.1.0)
-          c.lend-answer.ensures
+          lend-stays _ _ _ _ _ _ (receiver_of c.args.receiver) _ on
+          (numbers-narrow c.args.on.device c.well_formed.0.1.1.0) c.lend-answer.ensures
           (narrow-none c.args.receiver (sym c.narrow.ensures ∙ w.in_default.is-1))
       | in_default-via-in_default w ↦ refused-stays _ _ _ _ _ on c.lend-answer.ensures w.in_default.is-0
     ]
